@@ -1,0 +1,34 @@
+-- The table of examples holds of the definitions. Assumes nothing.
+use mathlib.Core.Path.{refl}
+use Rattle.model.specs.Bytes.{be16, number, bytesOf}
+use Rattle.model.specs.Circuit.{value, kinds, kindOf, charges, markAt, inputs, outputs, gates, gateAt, lastWires, circuitOf, sizesHold, operandsHold, wires, gateValue, plainValues}
+use Rattle.model.specs.Aes.{_⊕_, block, times, xtime, mulBits, gmul, squares, inverse, bit, affineBit, affineBits, sBox, double, quadruple}
+use Rattle.model.specs.Refusals.{refuse, _then_, firstOf, headVerdict, gateVerdict, recordVerdict, circuitVerdict}
+use Rattle.model.specs.Operations.{sizesOf}
+use Rattle.model.specs.Examples.{Examples}
+
+pub examples : Examples
+unfolding be16 number bytesOf value kinds kindOf charges markAt inputs outputs gates gateAt lastWires circuitOf sizesHold operandsHold wires gateValue plainValues _⊕_ block times xtime mulBits gmul squares inverse bit affineBit affineBits sBox double quadruple refuse _then_ firstOf headVerdict gateVerdict recordVerdict circuitVerdict sizesOf
+examples = record {
+  P1 = refl;
+  P2 = refl;
+  P3 = refl;
+  P4 = refl;
+  P5 = refl;
+  P6 = refl;
+  P7 = record { is-α = refl; is-β = refl; is-γ = refl };
+  P8 = record { is-α = refl; is-β = refl; is-γ = refl };
+  P9 = record { is-α = refl; is-β = refl; is-γ = refl };
+  P10 = record { is-α = refl; is-β = refl; is-γ = refl };
+  P11-check = refl;
+  P11-plain = refl;
+  P12 = refl;
+  P13 = refl;
+  P13-own-wire = refl;
+  P14 = refl;
+  P14-short = refl;
+  largest = refl;
+  too-many-gates = refl;
+  too-few-inputs = refl;
+  too-many-outputs = refl;
+}

@@ -1,0 +1,8 @@
+-- Laws of the definitions.
+pub mod Lists
+pub mod Table
+pub mod Buffers
+pub mod Xor
+pub mod Field
+pub mod Verdicts
+pub mod Examples

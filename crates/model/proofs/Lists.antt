@@ -1,0 +1,59 @@
+-- Laws of `tabulate`: equal tables, one more entry, and a list as the table of its entries. Assumes nothing.
+use mathlib.Core.Path.{_≡_, refl, sym, ap, ap₂, _∙_}
+use mathlib.Core.List.{List, [], _∷_, _++_}
+use Prim.Native.Nat.{ℕ, zero, suc, _+_, _<_, _≤_}
+use native.Mathlib.Nat.{add-zero, add-suc, suc-add, zero-add}
+use native.Mathlib.Numerals.{add-one}
+use native.Mathlib.Omega.{arith}
+use lib.ListN.{length, getD, take, drop, set, length-drop}
+use lib.Seq.{getD-take, getD-drop, length-take-le, take-suc-set, take-all}
+use Rattle.model.specs.Bytes.{from, tabulate}
+
+module _ {A : Type 0} where
+  pub from-cong : (i n : ℕ) (f g : ℕ → A) → ((k : ℕ) → k < i + n → f k ≡ g k) → from i n f ≡ from i n g
+  from-cong i zero f g h = refl
+  from-cong i (suc n) f g h =
+      ap₂ {A = A} {B = List A} {C = List A} (λ x xs. x ∷ xs) (h i (omega arith)) (from-cong (suc i) n f g (λ k l. h k (omega arith)))
+
+  from-snoc : (i n : ℕ) (f : ℕ → A) → from i (suc n) f ≡ from i n f ++ (f (i + n) ∷ [])
+  from-snoc i zero f = ap (λ (k : ℕ). f k ∷ []) (sym (add-zero i))
+  from-snoc i (suc n) f =
+      ap (λ (r : List A). f i ∷ r) (from-snoc (suc i) n f ∙ ap (λ (k : ℕ). from (suc i) n f ++ (f k ∷ [])) (suc-add i n ∙ sym (add-suc i n)))
+
+  -- a table with one entry more
+  pub tabulate-snoc : (n : ℕ) (f : ℕ → A) → tabulate (suc n) f ≡ tabulate n f ++ (f n ∷ [])
+  tabulate-snoc n f = from-snoc 0 n f ∙ ap (λ (k : ℕ). tabulate n f ++ (f k ∷ [])) (zero-add n)
+
+  from-length : (i n : ℕ) (f : ℕ → A) → length (from i n f) ≡ n
+  from-length i zero f = refl
+  from-length i (suc n) f = ap suc (from-length (suc i) n f)
+
+  pub tabulate-length : (n : ℕ) (f : ℕ → A) → length (tabulate n f) ≡ n
+  tabulate-length n f = from-length 0 n f
+
+  -- a list that is filled from the front, one store a turn, with f 0, f 1, ..
+  pub filled : (r : List A) (i : ℕ) (f : ℕ → A) → i < length r → take i r ≡ tabulate i f → take (i + 1) (set r i (f i)) ≡ tabulate (i + 1) f
+  filled r i f h e =
+      rw (add-one i) (take-suc-set r i (f i) h ∙ ap (λ (x : List A). x ++ (f i ∷ [])) e ∙ sym (tabulate-snoc i f))
+
+  pub full : (r : List A) (i n : ℕ) (f : ℕ → A) → length r ≡ n → i ≡ n → take i r ≡ tabulate i f → r ≡ tabulate n f
+  full r i n f l h e = sym (take-all i r (omega arith)) ∙ e ∙ ap (λ (k : ℕ). tabulate k f) h
+
+from-suc : (i n : ℕ) (x : ℕ) (l : List ℕ) → from (suc i) n (λ k. getD (x ∷ l) k 0) ≡ from i n (λ k. getD l k 0)
+from-suc i zero x l = refl
+from-suc i (suc n) x l = ap (λ (r : List ℕ). getD l i 0 ∷ r) (from-suc (suc i) n x l)
+
+tabulate-getD : (l : List ℕ) → tabulate (length l) (λ i. getD l i 0) ≡ l
+tabulate-getD [] = refl
+tabulate-getD (x ∷ l) = ap (λ (r : List ℕ). x ∷ r) (from-suc 0 (length l) x l ∙ tabulate-getD l)
+
+-- a list is the table of its entries
+pub elements : (n : ℕ) (l : List ℕ) → length l ≡ n → tabulate n (λ i. getD l i 0) ≡ l
+elements n l h = ap (λ (n : ℕ). tabulate n (λ i. getD l i 0)) (sym h) ∙ tabulate-getD l
+
+-- so is a part of a list
+pub part : (s : List ℕ) (at n : ℕ) → at + n ≤ length s → tabulate n (λ i. getD s (at + i) 0) ≡ take n (drop at s)
+part s at n h =
+    from-cong 0 n (λ i. getD s (at + i) 0) (λ i. getD (take n (drop at s)) i 0)
+    (λ i k. sym (getD-take n (drop at s) i 0 (omega arith) ∙ getD-drop at s i 0))
+    ∙ elements n (take n (drop at s)) (length-take-le n (drop at s) (omega (arith, length-drop at s)))

@@ -1,0 +1,84 @@
+-- Laws of refusals tried in turn. Assumes nothing.
+use Prim.Native.Nat.{ℕ, zero, suc, _+_, _-_, _≤_, _<_}
+use native.Mathlib.Nat.{add-zero, add-suc, le-of-suc-le-suc, eq-or-lt-of-le, not-suc-le-zero}
+use native.Mathlib.Numerals.{add-one}
+use native.Mathlib.Omega.{arith}
+use mathlib.Core.Logic.{⊎-elim}
+use mathlib.Core.Path.{_≡_, refl, sym, ap, _∙_}
+use mathlib.Core.Bool.{Bool, true, false, not, _&&_}
+use Rattle.model.specs.Refusals.{Verdict, fine, refused, refuse, _then_, firstOf}
+use Rattle.model.specs.Operations.{Answer, no, yes, answer}
+
+-- ---- what `fine` tells
+
+pub then-fine : (v w : Verdict) → (v then w) ≡ fine → (v ≡ fine) × (w ≡ fine)
+unfolding _then_
+then-fine fine w e = (refl, e)
+then-fine (refused i x) w e = absurd (let z : _≡_ {A = ℕ} 0 1 = cc in omega arith)
+
+pub refuse-fine : (b : Bool) (i x : ℕ) → refuse b i x ≡ fine → b ≡ false
+unfolding refuse
+refuse-fine true i x e = absurd (let z : _≡_ {A = ℕ} 0 1 = cc in omega arith)
+refuse-fine false i x e = refl
+
+pub and-both : (a b : Bool) → (a && b) ≡ true → (a ≡ true) × (b ≡ true)
+and-both true b e = (refl, e)
+and-both false b e = absurd (let z : _≡_ {A = ℕ} 0 1 = cc in omega arith)
+
+-- ---- a search by index
+
+module _ (f : ℕ → Verdict) where
+  first-stays : (k j i x : ℕ) → firstOf f k ≡ refused i x → firstOf f (k + j) ≡ refused i x
+  unfolding firstOf _then_ refuse
+  first-stays k zero i x e = rw add-zero e
+  first-stays k (suc j) i x e = rw (add-suc, first-stays k j i x e)
+
+  -- one more without a fault
+  pub first-next : (k : ℕ) → firstOf f k ≡ fine → f k ≡ fine → firstOf f (k + 1) ≡ fine
+  unfolding firstOf _then_ refuse
+  first-next k e g = rw (add-one, e, g)
+
+  -- the first fault is the search's, whatever comes after it
+  pub first-found : (k q i x : ℕ) → firstOf f k ≡ fine → k < q → f k ≡ refused i x → firstOf f q ≡ refused i x
+  unfolding firstOf _then_ refuse
+  first-found k q i x e h g =
+      let y : firstOf f (suc k) ≡ refused i x = rw (e, g) in
+      let at : q ≡ suc k + (q - suc k) = omega arith in
+      rw at (first-stays (suc k) (q - suc k) i x y)
+
+  -- no fault: none at any index
+  pub first-each : (q k : ℕ) → firstOf f q ≡ fine → k < q → f k ≡ fine
+  unfolding firstOf
+  first-each zero k e h = absurd (not-suc-le-zero h)
+  first-each (suc q) k e h =
+      let a = then-fine _ _ e in
+      ⊎-elim (λ i. rw i (a .1)) (λ i. first-each q k (a .0) i) (eq-or-lt-of-le (le-of-suc-le-suc h))
+
+-- ---- what an answer tells of its verdict
+
+pub record Given {A : Type 0} (v : Verdict) (a b : A) : Type 0 where
+  pub is-fine : v ≡ fine
+  pub is-result : a ≡ b
+
+pub yes-given : {A : Type 0} (v : Verdict) (a b : A) → yes a ≡ answer v b → Given v a b
+yes-given fine a b e = record { is-fine = refl; is-result = cc }
+yes-given (refused i x) a b e = absurd (let z : _≡_ {A = ℕ} 0 1 = cc in omega arith)
+
+-- v and w are the same refusal
+pub record Turned (v w : Verdict) : Type 0 where
+  pub number : ℕ
+  pub place : ℕ
+  pub is-v : v ≡ refused number place
+  pub is-w : w ≡ refused number place
+
+pub no-turned : {A : Type 0} (v w : Verdict) (a : A) → no w ≡ answer v a → Turned v w
+no-turned fine w a e = absurd (let z : _≡_ {A = ℕ} 0 1 = cc in omega arith)
+no-turned (refused i x) w a e = record { number = i; place = x; is-v = refl; is-w = cc }
+
+-- a refusal is given whatever would have been tried after it, and whatever the results would have been
+pub no-then : {A B : Type 0} (v w u : Verdict) (a : A) (b : B) → no w ≡ answer v a → no w ≡ answer (v then u) b
+unfolding _then_
+no-then {A} {B} v w u a b e = go (no-turned v w a e)
+  where
+    go : Turned v w → no w ≡ answer (v then u) b
+    go t = rw (t .is-v, t .is-w)

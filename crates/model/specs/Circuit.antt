@@ -1,0 +1,118 @@
+-- Document 01, "Circuit": gates and their codes, the file, the limits, and what the plain circuit carries.
+use Prim.Native.Nat.{ℕ, zero, suc, _+_, _*_, _/_, _%_, _^_, _-_}
+use mathlib.Core.List.{List, [], _∷_, _++_}
+use mathlib.Core.Bool.{Bool, _&&_}
+use lib.ListN.{length, getD}
+use lib.Dec.{leb, ltb, eqb}
+use Rattle.model.specs.declared.Gate.{Gate}
+use Rattle.model.specs.Bytes.{tabulate, be16}
+
+-- n inputs, the gates in file order, and the wires of the outputs in their order
+pub record Circuit : Type 0 where
+  pub n : ℕ
+  pub gates : List Gate
+  pub outputs : List ℕ
+
+-- ---- codes
+
+-- "bit 2u+v (bit 0 lowest) is the gate's value for a=u, b=v"
+unfoldable pub value : ℕ → ℕ → ℕ → ℕ
+value code u v = code / 2 ^ (2 * u + v) % 2
+
+-- What a code means. `charged u v x`: of the four truth pairs, (u, v) has a value of its own, x.
+-- `free p q c`: the value is pu ⊕ qv ⊕ c.
+pub data Kind : Type 0 where
+  charged : (u v x : ℕ) → Kind
+  free : (p q c : ℕ) → Kind
+  refused : Kind
+
+-- "Codes 1, 2, 4, 7, 8, 11, 13, 14 are charged gates; 6 (XOR) and 9 (XNOR) are free; every other code is refused."
+-- A line for each group of four, from code 0.
+unfoldable pub kinds : List Kind
+kinds =
+    refused ∷ charged 0 0 1 ∷ charged 0 1 1 ∷ refused
+    ∷ charged 1 0 1 ∷ refused ∷ free 1 1 0 ∷ charged 1 1 0
+    ∷ charged 1 1 1 ∷ free 1 1 1 ∷ refused ∷ charged 1 0 0
+    ∷ refused ∷ charged 0 1 0 ∷ charged 0 0 0 ∷ refused ∷ []
+
+unfoldable pub kindOf : ℕ → Kind
+kindOf code = getD kinds code refused
+
+-- how much a gate adds to p
+abbrev pub charge : Kind → ℕ
+charge (charged u v x) = 1
+charge (free p q c) = 0
+charge refused = 0
+
+-- "p is the number of charged gates"
+unfoldable pub charges : List Gate → ℕ
+charges [] = 0
+charges (g ∷ gs) = charge (kindOf (g .code)) + charges gs
+
+-- ---- the file: a header of 8 bytes, and q gate records of 7 bytes
+
+-- the two bytes at an index are this mark
+unfoldable pub markAt : List ℕ → ℕ → ℕ → ℕ → Bool
+markAt s at x y = eqb (getD s at 0) x && eqb (getD s (at + 1) 0) y
+
+-- "mark 43 48, then n, m, q of 2 bytes each"
+unfoldable pub inputs : List ℕ → ℕ
+inputs s = be16 s 2
+
+unfoldable pub outputs : List ℕ → ℕ
+outputs s = be16 s 4
+
+unfoldable pub gates : List ℕ → ℕ
+gates s = be16 s 6
+
+-- gate record k, from 0: "mark 43 47, operands a and b of 2 bytes each, a code of 1 byte"
+abbrev pub recordAt : ℕ → ℕ
+recordAt k = 8 + 7 * k
+
+unfoldable pub gateAt : List ℕ → ℕ → Gate
+gateAt s k = record { a = be16 s (recordAt k + 2); b = be16 s (recordAt k + 4); code = getD s (recordAt k + 6) 0 }
+
+-- "The last m wires are the outputs."
+unfoldable pub lastWires : ℕ → ℕ → ℕ → List ℕ
+lastWires n q m = tabulate m (λ i. n + q - m + 1 + i)
+
+-- the circuit that bytes are
+unfoldable pub circuitOf : List ℕ → Circuit
+circuitOf s = record {
+  n = inputs s;
+  gates = tabulate (gates s) (gateAt s);
+  outputs = lastWires (inputs s) (gates s) (outputs s);
+}
+
+-- ---- limits
+
+-- "n from 2 to 4,096; m from 1 to q; q at least 1; n+q at most 65,535"
+unfoldable pub sizesHold : ℕ → ℕ → ℕ → Bool
+sizesHold n m q = leb 2 n && leb n 4096 && leb 1 m && leb m q && leb 1 q && leb (n + q) 65535
+
+-- "1 ≤ a < b < the gate's own wire number"
+unfoldable pub operandsHold : ℕ → Gate → Bool
+operandsHold own g = leb 1 (g .a) && ltb (g .a) (g .b) && ltb (g .b) own
+
+-- the wire number of gate k, from 0: "one wire per gate, n+1 to n+q in file order"
+abbrev pub gateWire : ℕ → ℕ → ℕ
+gateWire n k = n + k + 1
+
+-- ---- what stands on the wires
+
+-- wire w of a list with an entry for each wire; "wires are numbered from 1"
+abbrev pub wire : {A : Type 0} → A → List A → ℕ → A
+wire d ws w = getD ws (w - 1) d
+
+-- all wires, from those of the inputs: each gate adds its own, made from those before it
+unfoldable pub wires : {A : Type 0} → (List A → Gate → A) → List Gate → List A → List A
+wires step [] ws = ws
+wires step (g ∷ gs) ws = wires step gs (ws ++ (step ws g ∷ []))
+
+-- "a gate's wire the value that its code has for the bits on a and b"
+unfoldable pub gateValue : List ℕ → Gate → ℕ
+gateValue vs g = value (g .code) (wire 0 vs (g .a)) (wire 0 vs (g .b))
+
+-- "an input wire carries its bit of the value list": the values on all wires
+unfoldable pub plainValues : Circuit → List ℕ → List ℕ
+plainValues c vs = wires gateValue (c .gates) vs

@@ -1,0 +1,52 @@
+-- Document 01, "Table of examples": those marked P, and the limits. The theorem is `examples` of proofs/Examples.antt.
+use Prim.Native.Nat.{ℕ}
+use mathlib.Core.Path.{_≡_}
+use mathlib.Core.Bool.{true, false}
+use mathlib.Core.List.{List, [], _∷_, _++_}
+use lib.ListN.{take, replicate}
+use Rattle.model.specs.Circuit.{kindOf, sizesHold, circuitOf, plainValues}
+use Rattle.model.specs.Aes.{Block, block, double, quadruple, sBox}
+use Rattle.model.specs.HalfGates.{alpha, beta, gamma}
+use Rattle.model.specs.Refusals.{refused}
+use Rattle.model.specs.Operations.{yes, no, checkAnswer}
+
+-- P11's circuit, with other operands and another code
+abbrev pub oneGate : ℕ → ℕ → ℕ → List ℕ
+oneGate a b code = 0x43 ∷ 0x48 ∷ 0x00 ∷ 0x02 ∷ 0x00 ∷ 0x01 ∷ 0x00 ∷ 0x01 ∷ 0x43 ∷ 0x47 ∷ 0x00 ∷ a ∷ 0x00 ∷ b ∷ code ∷ []
+
+abbrev pub p11 : List ℕ
+p11 = oneGate 0x01 0x02 0x08
+
+-- 80 and fifteen 00
+abbrev pub highest : Block
+highest = 0x80 ∷ replicate 15 0x00
+
+-- α, β, γ of a code
+pub record Negations (code α β γ : ℕ) : Type 0 where
+  pub is-α : alpha (kindOf code) ≡ α
+  pub is-β : beta (kindOf code) ≡ β
+  pub is-γ : gamma (kindOf code) ≡ γ
+
+pub record Examples : Type 0 where
+  pub P1 : double (block 0) ≡ block 0
+  pub P2 : double (block 1) ≡ block 2
+  pub P3 : double highest ≡ replicate 15 0x00 ++ (0x87 ∷ [])
+  pub P4 : quadruple highest ≡ replicate 14 0x00 ++ (0x01 ∷ 0x0E ∷ [])
+  pub P5 : sBox 0x00 ≡ 0x63
+  pub P6 : sBox 0x01 ≡ 0x7C
+  pub P7 : Negations 8 0 0 0
+  pub P8 : Negations 2 1 0 0
+  pub P9 : Negations 14 1 1 1
+  pub P10 : Negations 7 0 0 1
+  pub P11-check : checkAnswer p11 ≡ yes (record { n = 2; m = 1; q = 1; p = 1 })
+  pub P11-plain : plainValues (circuitOf p11) (1 ∷ 1 ∷ []) ≡ 1 ∷ 1 ∷ 1 ∷ []
+  pub P12 : checkAnswer (oneGate 0x01 0x02 0x00) ≡ no (refused 7 3)
+  pub P13 : checkAnswer (oneGate 0x02 0x02 0x08) ≡ no (refused 6 3)
+  pub P13-own-wire : checkAnswer (oneGate 0x01 0x03 0x08) ≡ no (refused 6 3)
+  pub P14 : checkAnswer (take 14 p11) ≡ no (refused 4 14)
+  pub P14-short : checkAnswer (take 7 p11) ≡ no (refused 1 7)
+  -- "n=4,096 with q=61,439 passes refusal 3; q=61,440 doesn't. n=1 or m=2, q=1: refusal 3."
+  pub largest : sizesHold 4096 1 61439 ≡ true
+  pub too-many-gates : sizesHold 4096 1 61440 ≡ false
+  pub too-few-inputs : sizesHold 1 1 1 ≡ false
+  pub too-many-outputs : sizesHold 2 2 1 ≡ false

@@ -1,0 +1,10 @@
+-- What is meant: document 01, a file for each of its sections, in its order. Definitions only: laws are in proofs/.
+pub mod Bytes
+pub mod Circuit
+pub mod Aes
+pub mod Tokens
+pub mod HalfGates
+pub mod Material
+pub mod Refusals
+pub mod Operations
+pub mod Examples

@@ -1,0 +1,133 @@
+-- Document 01, "Turned down, by number": refusals 1 to 7, 9, 10 and 19.
+use Prim.Native.Nat.{ℕ, zero, suc, _+_, _*_}
+use mathlib.Core.List.{List}
+use mathlib.Core.Bool.{Bool, true, false, not}
+use lib.ListN.{length, getD}
+use lib.Dec.{ltb, eqb}
+use Rattle.model.specs.declared.Gate.{Gate}
+use Rattle.model.specs.declared.Refusal.{Refusal}
+use Rattle.model.specs.declared.Refusal.the-variants.{CircuitShort, CircuitMark, Limits, CircuitLength, GateMark, Operands, Code, SeedLength, ValuesLength, Value, TokensLength, MaterialShort, MaterialMark, Scheme, MaterialSizes, MaterialLength, RowRecord, LastRecord, Room, PickWire}
+use Rattle.model.specs.Circuit as C
+use Rattle.model.specs.Circuit.{Kind, kindOf, markAt, inputs, outputs, gates, recordAt, gateAt, sizesHold, operandsHold, gateWire}
+
+-- "A refusal is its number and a place"; `fine` is none
+pub data Verdict : Type 0 where
+  fine : Verdict
+  refused : (number place : ℕ) → Verdict
+
+-- refusal i at place x, where its condition holds
+unfoldable pub refuse : Bool → ℕ → ℕ → Verdict
+refuse true i x = refused i x
+refuse false i x = fine
+
+infixl 5 _then_
+-- "Conditions are tried in rising number, .. and the first that holds is given."
+unfoldable pub _then_ : Verdict → Verdict → Verdict
+_then_ fine v = v
+_then_ (refused i x) v = refused i x
+
+-- a search: the first refusal among f 0, .., f (k - 1)
+unfoldable pub firstOf : (ℕ → Verdict) → ℕ → Verdict
+firstOf f zero = fine
+firstOf f (suc k) = firstOf f k then f k
+
+-- ---- the list's numbers and places, for each case of the code's enum
+
+abbrev pub numberOf : Refusal → ℕ
+numberOf (CircuitShort l) = 1
+numberOf CircuitMark = 2
+numberOf Limits = 3
+numberOf (CircuitLength l) = 4
+numberOf (GateMark w) = 5
+numberOf (Operands w) = 6
+numberOf (Code w) = 7
+numberOf (SeedLength l) = 8
+numberOf (ValuesLength l) = 9
+numberOf (Value i) = 10
+numberOf (TokensLength l) = 11
+numberOf (MaterialShort l) = 12
+numberOf MaterialMark = 13
+numberOf (Scheme b) = 14
+numberOf MaterialSizes = 15
+numberOf (MaterialLength l) = 16
+numberOf (RowRecord w) = 17
+numberOf (LastRecord at) = 18
+numberOf (Room l) = 19
+numberOf (PickWire w) = 20
+
+abbrev pub placeOf : Refusal → ℕ
+placeOf (CircuitShort l) = l
+placeOf CircuitMark = 0
+placeOf Limits = 2
+placeOf (CircuitLength l) = l
+placeOf (GateMark w) = w .0
+placeOf (Operands w) = w .0
+placeOf (Code w) = w .0
+placeOf (SeedLength l) = l
+placeOf (ValuesLength l) = l
+placeOf (Value i) = i
+placeOf (TokensLength l) = l
+placeOf (MaterialShort l) = l
+placeOf MaterialMark = 0
+placeOf (Scheme b) = b
+placeOf MaterialSizes = 3
+placeOf (MaterialLength l) = l
+placeOf (RowRecord w) = w .0
+placeOf (LastRecord at) = at
+placeOf (Room l) = l
+placeOf (PickWire w) = w .0
+
+-- the verdict that a refusal of the code is
+abbrev pub verdictOf : Refusal → Verdict
+verdictOf f = refused (numberOf f) (placeOf f)
+
+-- ---- 1 to 4: the circuit's header
+
+unfoldable pub headVerdict : List ℕ → Verdict
+headVerdict s =
+    refuse (ltb (length s) 8) 1 (length s)
+    then refuse (not (markAt s 0 0x43 0x48)) 2 0
+    then refuse (not (sizesHold (inputs s) (outputs s) (gates s))) 3 2
+    then refuse (not (eqb (length s) (8 + 7 * gates s))) 4 (length s)
+
+-- ---- 5 to 7: "Gates are searched in file order; the search leaves at the first gate with a fault, and that gate's lowest number is given."
+
+abbrev pub isRefused : Kind → Bool
+isRefused (C.charged u v x) = false
+isRefused (C.free p q c) = false
+isRefused C.refused = true
+
+-- 6 and 7 of a gate, by its own wire number
+unfoldable pub gateVerdict : ℕ → Gate → Verdict
+gateVerdict own g =
+    refuse (not (operandsHold own g)) 6 own
+    then refuse (isRefused (kindOf (g .code))) 7 own
+
+-- 5 to 7 of gate record k, in a circuit of n inputs
+unfoldable pub recordVerdict : List ℕ → ℕ → ℕ → Verdict
+recordVerdict s n k =
+    refuse (not (markAt s (recordAt k) 0x43 0x47)) 5 (gateWire n k)
+    then gateVerdict (gateWire n k) (gateAt s k)
+
+-- 5 to 7 of the first k gates
+abbrev pub gatesVerdict : List ℕ → ℕ → ℕ → Verdict
+gatesVerdict s n k = firstOf (recordVerdict s n) k
+
+-- 1 to 7. "A circuit is accepted if none of the conditions that check tries holds."
+unfoldable pub circuitVerdict : List ℕ → Verdict
+circuitVerdict s = headVerdict s then gatesVerdict s (inputs s) (gates s)
+
+-- ---- 9 and 10: the value list, for n inputs
+
+-- 10 at index i
+unfoldable pub valueVerdict : List ℕ → ℕ → Verdict
+valueVerdict v i = refuse (ltb 1 (getD v i 0)) 10 i
+
+-- 10: "index of the first, from 0"
+abbrev pub bitsVerdict : List ℕ → Verdict
+bitsVerdict v = firstOf (valueVerdict v) (length v)
+
+-- ---- 19: "An output buffer is too short (bytes needed"
+
+unfoldable pub roomVerdict : ℕ → ℕ → Verdict
+roomVerdict needed room = refuse (ltb room needed) 19 needed

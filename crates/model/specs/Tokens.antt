@@ -1,0 +1,49 @@
+-- Document 01, "Tokens".
+use Prim.Native.Nat.{ℕ, _+_, _*_, _/_, _%_}
+use mathlib.Core.List.{List}
+use lib.ListN.{getD, set}
+use Rattle.model.specs.Bytes.{tabulate}
+use Rattle.model.specs.Circuit.{Circuit}
+use Rattle.model.specs.Aes.{Block, _⊕_, times, block, aes}
+
+-- What a garbling is made from: the circuit, the seed, and the scheme by its byte.
+pub record Garbling : Type 0 where
+  pub circuit : Circuit
+  pub seed : Block
+  pub scheme : ℕ
+
+-- "the lowest bit of its last byte"
+unfoldable pub colour : Block → ℕ
+colour t = getD t 15 0 % 2
+
+-- a block "with its colour set to 1"
+unfoldable pub coloured : Block → Block
+coloured t = set t 15 (getD t 15 0 / 2 * 2 + 1)
+
+-- "The distance of two tokens is their exclusive or."
+unfoldable pub distance : Block → Block → Block
+distance s t = s ⊕ t
+
+-- "AES under the seed of block i": the one place where the seed is used
+unfoldable pub seedBlock : Garbling → ℕ → Block
+seedBlock γ i = aes (γ .seed) (block i)
+
+-- "R, the seed's offset, is AES under the seed of block 0, with its colour set to 1."
+unfoldable pub offset : Garbling → Block
+offset γ = coloured (seedBlock γ 0)
+
+-- "The zero token X of input wire i is AES under the seed of block i.": those of the inputs, from wire 1
+unfoldable pub inputZeros : Garbling → List Block
+inputZeros γ = tabulate (γ .circuit .n) (λ i. seedBlock γ (i + 1))
+
+-- "The one token of any wire is its zero token ⊕ R."
+unfoldable pub oneToken : Garbling → Block → Block
+oneToken γ x = x ⊕ offset γ
+
+-- "Free gates: X of the gate = Xa ⊕ Xb, and ⊕ R more for code 9": of pu ⊕ qv ⊕ c, p times Xa ⊕ q times Xb ⊕ c times R
+unfoldable pub freeZero : ℕ → ℕ → ℕ → Block → Block → Block → Block
+freeZero p q c r xa xb = times p xa ⊕ times q xb ⊕ times c r
+
+-- "Evaluation of either free gate is the exclusive or of the two tokens held."
+unfoldable pub freeToken : ℕ → ℕ → Block → Block → Block
+freeToken p q a b = times p a ⊕ times q b

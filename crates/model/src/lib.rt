@@ -1,0 +1,71 @@
+// The types of document 01. No work is done here: specs/ says what is meant, and the crates above are proved against it.
+
+// A wire number, from 1 (01, Circuit).
+pub struct Wire(pub u16);
+
+// A truth value, 0 or 1: what the plain circuit carries on a wire (01, Circuit; "semantics" in source 000).
+pub struct Truth(pub u8);
+
+// The colour of a token, 0 or 1 (01, Tokens; the permute bit, "type" in source 000). It is not a truth value.
+pub struct Colour(pub u8);
+
+// A gate as a circuit has it: two operands, which are wire numbers, and a code, which is its truth table (01, Circuit).
+pub struct Gate {
+    pub a: u16,
+    pub b: u16,
+    pub code: u8,
+}
+
+// What a code means (01, Circuit and Scheme 3).
+pub enum Kind {
+    // An AND-type gate: the pair u, v of truth values that has a value of its own, and that value.
+    Charged { u: Truth, v: Truth, own: Truth },
+    // A free-XOR gate: its value is pu ⊕ qv ⊕ c, with p, q and c 0 or 1.
+    Free { p: u8, q: u8, c: u8 },
+    Refused,
+}
+
+// A refusal, a case for each number of 01's list, with what its place is made from.
+// `numberOf` and `placeOf` of specs/Refusals.antt give each case its number and its place.
+pub enum Refusal {
+    CircuitShort(usize),
+    CircuitMark,
+    Limits,
+    CircuitLength(usize),
+    GateMark(Wire),
+    Operands(Wire),
+    Code(Wire),
+    SeedLength(usize),
+    ValuesLength(usize),
+    Value(usize),
+    TokensLength(usize),
+    MaterialShort(usize),
+    MaterialMark,
+    Scheme(u8),
+    MaterialSizes,
+    MaterialLength(usize),
+    RowRecord(Wire),
+    LastRecord(usize),
+    Room(usize),
+    PickWire(Wire),
+}
+
+// A circuit's sizes: inputs, outputs, gates, charged gates (01, Circuit).
+pub struct Sizes {
+    pub n: usize,
+    pub m: usize,
+    pub q: usize,
+    pub p: usize,
+}
+
+// The answer of check.
+pub enum Checked {
+    Accepted(Sizes),
+    Refused(Refusal),
+}
+
+// The answer of an operation whose only results are the bytes that it writes.
+pub enum Ran {
+    Done,
+    Refused(Refusal),
+}
