@@ -1,1 +1,54 @@
-// circuit
+// Circuits (01, Circuit): what a code means, the header, the gates, and the operations check and plain (01, Operations).
+ghost use mathlib.Core.Path.{_≡_};
+ghost use Rattle.model.specs.Operations.{checkedOf, checkAnswer, ranOf, PlainIs};
+use crate::gates::Searched;
+use crate::gates::search_gates;
+use crate::header::HeaderRead;
+use crate::header::read_header;
+use crate::values::Ready;
+use crate::values::plain_gates;
+use crate::values::plain_ready;
+use buffer::copy_front;
+use model::Checked;
+use model::Ran;
+use model::Sizes;
+
+pub mod code;
+pub mod gates;
+pub mod header;
+pub mod refusal;
+pub mod values;
+
+// The sizes n, m, q and p of a circuit, or the first of refusals 1 to 7.
+pub fn check(circuit: &[u8]) -> Checked
+    ensures { λ r. ⌜ checkedOf r ≡ checkAnswer (now (circuit .entry)) ⌝ }
+{
+    match read_header(circuit) {
+        HeaderRead::Refused(f) => Checked::Refused(f),
+        HeaderRead::Fine(h) => {
+            let n = h.n;
+            let m = h.m;
+            let q = h.q;
+            match search_gates(circuit, n, q) {
+                Searched::Fault(f) => Checked::Refused(f),
+                Searched::Clean(p) => Checked::Accepted(Sizes { n, m, q, p }),
+            }
+        }
+    }
+}
+
+// The value on every wire, from the values of the inputs; or the first of refusals 1 to 7, 9, 10, 19.
+pub fn plain(circuit: &[u8], values: &[u8], wires: &mut [u8]) -> Ran
+    ensures { λ r. ⌜ PlainIs (now (circuit .entry)) (now (values .entry)) (now (wires .entry)) (ranOf r) (now (wires .exit)) ⌝ }
+{
+    match plain_ready(circuit, values, wires.len()) {
+        Ready::Refused(f) => Ran::Refused(f),
+        Ready::Go(z) => {
+            let n = z.n;
+            let q = z.q;
+            copy_front(values, wires);
+            plain_gates(circuit, n, q, wires);
+            Ran::Done
+        }
+    }
+}

@@ -82,3 +82,7 @@ pub part-over : (o b : List ℕ) (a k : ℕ) (y : List ℕ) → a + k ≤ length
 unfolding put over
 part-over o b a k y h l e =
     rw (e, append-assoc, drop-take-drop (length b) k (drop a o) l (simp length-drop (omega arith)))
+
+-- the same of all that is left of a buffer from an index on
+pub rest-over : (o b y : List ℕ) (a : ℕ) → a + length b ≤ length o → y ≡ over b (take (length o - a) (drop a o)) → putMid a (length o - a) o y ≡ put o a b
+rest-over o b y a h e = part-over o b a (length o - a) y (omega arith) (omega arith) e

@@ -75,7 +75,14 @@ pub no-turned : {A : Type 0} (v w : Verdict) (a : A) → no w ≡ answer v a →
 no-turned fine w a e = absurd (let z : _≡_ {A = ℕ} 0 1 = cc in omega arith)
 no-turned (refused i x) w a e = record { number = i; place = x; is-v = refl; is-w = cc }
 
--- a refusal is given whatever would have been tried after it, and whatever the results would have been
+-- a refusal is given whatever the results would have been
+pub no-other : {A B : Type 0} (v w : Verdict) (a : A) (b : B) → no w ≡ answer v a → no w ≡ answer v b
+no-other {A} {B} v w a b e = go (no-turned v w a e)
+  where
+    go : Turned v w → no w ≡ answer v b
+    go t = rw (t .is-v, t .is-w)
+
+-- and whatever would have been tried after it
 pub no-then : {A B : Type 0} (v w u : Verdict) (a : A) (b : B) → no w ≡ answer v a → no w ≡ answer (v then u) b
 unfolding _then_
 no-then {A} {B} v w u a b e = go (no-turned v w a e)

@@ -19,7 +19,7 @@ pub struct Gate {
 // What a code means (01, Circuit and Scheme 3).
 pub enum Kind {
     // An AND-type gate: the pair u, v of truth values that has a value of its own, and that value.
-    Charged { u: Truth, v: Truth, own: Truth },
+    Charged(Truth, Truth, Truth),
     // A free-XOR gate: its value is pu ⊕ qv ⊕ c, with p, q and c 0 or 1.
     Free { p: u8, q: u8, c: u8 },
     Refused,

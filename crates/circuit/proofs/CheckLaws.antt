@@ -1,0 +1,81 @@
+-- Check: a law for each of its returns, and what is known of an accepted circuit. Assumes nothing.
+use Prim.Native.Nat.{ℕ, _+_, _*_, _≤_, _<_}
+use native.Mathlib.Omega.{arith}
+use mathlib.Core.Path.{_≡_, refl, sym, ap, _∙_}
+use mathlib.Core.List.{List}
+use borrow.Author.Tests.{ltb-true, leb-true, not-false}
+use lib.ListN.{length}
+use Rattle.model.specs.declared.Gate.{Gate}
+use Rattle.model.specs.declared.Refusal.{Refusal}
+use Rattle.model.specs.Bytes.{tabulate}
+use Rattle.model.specs.Circuit.{charges, circuitOf, inputs, outputs, gates, gateAt, gateWire, operandsHold}
+use Rattle.model.specs.Refusals.{Verdict, fine, refused, _then_, verdictOf, headVerdict, gateVerdict, recordVerdict, gatesVerdict, circuitVerdict}
+use Rattle.model.specs.Operations.{Answer, no, yes, answer, sizesOf, checkAnswer}
+use Rattle.model.proofs.Verdicts.{yes-given, no-turned, no-then, no-other, Given, then-fine, refuse-fine, and-both, first-each}
+use Rattle.circuit.specs.Answers.{headerOf, headerAnswer, searchOf, searchAnswer}
+use Rattle.circuit.specs.declared.header.Header.{Header}
+use Rattle.circuit.specs.declared.header.HeaderRead.{HeaderRead}
+use Rattle.circuit.specs.declared.gates.Searched.{Searched}
+use Rattle.circuit.proofs.HeaderLaws.{HeaderHolds, header-holds}
+
+module _ (s : List ℕ) (r : HeaderRead) (is-r : headerOf r ≡ headerAnswer s) where
+  pub check-header : (f : Refusal) → r ≡ HeaderRead.Refused f → no (verdictOf f) ≡ checkAnswer s
+  unfolding circuitVerdict
+  check-header f e = no-then (headVerdict s) (verdictOf f) _ _ _ (rw e at is-r)
+
+  module _ (h : Header) (e : r ≡ HeaderRead.Fine h) where
+    told : Given (headVerdict s) h (record { n = inputs s; m = outputs s; q = gates s })
+    told = yes-given (headVerdict s) h _ (rw e at is-r)
+
+    holds : HeaderHolds s
+    holds = header-holds s (told .is-fine)
+
+    is-n : h .n ≡ inputs s
+    is-n = ap (λ (x : Header). x .n) (told .is-result)
+
+    is-q : h .q ≡ gates s
+    is-q = ap (λ (x : Header). x .q) (told .is-result)
+
+    pub search-whole : length s ≡ 8 + 7 * h .q
+    search-whole = rw is-q (holds .whole)
+
+    pub search-sum : h .n + h .q ≤ 65535
+    search-sum = rw (is-n, is-q) (holds .sizes .sum)
+
+    -- what the search found
+    module _ (t : Searched) (is-t : searchOf t ≡ searchAnswer s (h .n) (h .q)) where
+      pub check-gate : (f : Refusal) → t ≡ Searched.Fault f → no (verdictOf f) ≡ checkAnswer s
+      unfolding circuitVerdict _then_
+      check-gate f g =
+          let z : no (verdictOf f) ≡ searchAnswer s (inputs s) (gates s) = rw (g, is-n, is-q) at is-t in
+          rw (told .is-fine) (no-other (gatesVerdict s (inputs s) (gates s)) (verdictOf f) _ (sizesOf s) z)
+
+      pub check-accepted : (p : ℕ) → t ≡ Searched.Clean p → yes (record { n = h .n; m = h .m; q = h .q; p = p }) ≡ checkAnswer s
+      unfolding circuitVerdict _then_ sizesOf circuitOf
+      check-accepted p g =
+          let z : yes p ≡ searchAnswer s (inputs s) (gates s) = rw (g, is-n, is-q) at is-t in
+          let y = yes-given (gatesVerdict s (inputs s) (gates s)) p _ z in
+          rw (told .is-fine, y .is-fine, told .is-result, y .is-result)
+
+pub ruleset check-cases = (check-header, search-whole, search-sum, check-gate, check-accepted)
+
+-- ---- an accepted circuit
+
+pub circuit-header : (s : List ℕ) → circuitVerdict s ≡ fine → HeaderHolds s
+unfolding circuitVerdict
+circuit-header s e = header-holds s (then-fine _ _ e .0)
+
+-- the operands of gate k keep their limit
+pub record GateHolds (s : List ℕ) (k : ℕ) : Type 0 where
+  pub a-low : 1 ≤ gateAt s k .a
+  pub order : gateAt s k .a < gateAt s k .b
+  pub b-high : gateAt s k .b < gateWire (inputs s) k
+
+pub gate-holds : (s : List ℕ) (k : ℕ) → circuitVerdict s ≡ fine → k < gates s → GateHolds s k
+unfolding circuitVerdict recordVerdict gateVerdict operandsHold
+gate-holds s k e h =
+    let r = first-each (recordVerdict s (inputs s)) (gates s) k (then-fine _ _ e .1) h in
+    let g = then-fine _ _ (then-fine _ _ r .1) in
+    let a = and-both _ _ (not-false _ (refuse-fine _ _ _ (g .0))) in
+    let b = and-both _ _ (a .0) in
+    record { a-low = leb-true _ _ (b .0); order = ltb-true _ _ (b .1); b-high = ltb-true _ _ (a .1) }

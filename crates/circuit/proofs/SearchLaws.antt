@@ -1,0 +1,60 @@
+-- The search over the gate records: its invariant, its turns and its ends. Assumes nothing.
+use Prim.Native.Nat.{ℕ, zero, suc, _+_, _≤_, _<_}
+use native.Mathlib.Numerals.{add-one}
+use native.Mathlib.Omega.{arith}
+use mathlib.Core.Path.{_≡_, refl, sym, ap, _∙_}
+use mathlib.Core.List.{List, [], _∷_, _++_}
+use Rattle.model.specs.declared.Gate.{Gate}
+use Rattle.model.specs.declared.Refusal.{Refusal}
+use Rattle.model.specs.Bytes.{tabulate}
+use Rattle.model.specs.Circuit.{kindOf, charge, charges, gateAt}
+use Rattle.model.specs.Refusals.{Verdict, fine, refused, verdictOf, firstOf, recordVerdict, gatesVerdict}
+use Rattle.model.specs.Operations.{Answer, no, yes}
+use Rattle.model.proofs.Lists.{tabulate-snoc}
+use Rattle.model.proofs.Circuits.{charges-snoc}
+use Rattle.model.proofs.Verdicts.{yes-given, no-turned, Turned, first-next, first-found}
+use Rattle.circuit.specs.Answers.{gateOf, recordAnswer, searchAnswer}
+use Rattle.circuit.specs.declared.gates.GateRead.{GateRead}
+
+-- k gates have no fault, and p of them are charged
+pub record Searching (s : List ℕ) (n q k p : ℕ) : Type 0 where
+  pub within : k ≤ q
+  pub at-most : p ≤ k
+  pub no-fault : gatesVerdict s n k ≡ fine
+  pub counted : p ≡ charges (tabulate k (gateAt s))
+
+pub search-start : (s : List ℕ) (n q : ℕ) → Searching s n q 0 0
+unfolding firstOf charges
+search-start s n q = record { within = omega arith; at-most = omega arith; no-fault = refl; counted = refl }
+
+module _ (s : List ℕ) (n q k p : ℕ) (inv : Searching s n q k p) where
+  pub search-end : q ≤ k → yes p ≡ searchAnswer s n q
+  search-end h =
+      let w = inv .within in
+      let e : q ≡ k = omega arith in
+      rw (e, inv .no-fault, inv .counted)
+
+  module _ (r : GateRead) (is-r : gateOf r ≡ recordAnswer s n k) (more : k < q) where
+    -- p′ is the count after the gate
+    turn : (a p′ : ℕ) → gateOf r ≡ yes a → a ≤ 1 → p′ ≡ p + a → Searching s n q (k + 1) p′
+    turn a p′ e small f =
+        let g = yes-given (recordVerdict s n k) a (charge (kindOf (gateAt s k .code))) (sym e ∙ is-r) in
+        let m = inv .at-most in
+        record {
+          within = omega arith;
+          at-most = omega arith;
+          no-fault = first-next _ k (inv .no-fault) (g .is-fine);
+          counted = rw (add-one, tabulate-snoc k (gateAt s), charges-snoc, f, inv .counted, g .is-result);
+        }
+
+    pub turn-charged : (p′ : ℕ) → r ≡ GateRead.Charged → p′ ≡ p + 1 → Searching s n q (k + 1) p′
+    turn-charged p′ e f = turn 1 p′ (ap gateOf e) (omega arith) f
+
+    pub turn-free : (p′ : ℕ) → r ≡ GateRead.Free → p′ ≡ p → Searching s n q (k + 1) p′
+    turn-free p′ e f = turn 0 p′ (ap gateOf e) (omega arith) (omega arith)
+
+    pub turn-fault : (f : Refusal) → r ≡ GateRead.Fault f → no (verdictOf f) ≡ searchAnswer s n q
+    turn-fault f e = go (no-turned (recordVerdict s n k) (verdictOf f) _ (rw e at is-r))
+      where
+        go : Turned (recordVerdict s n k) (verdictOf f) → no (verdictOf f) ≡ searchAnswer s n q
+        go t = rw (first-found (recordVerdict s n) k q (t .number) (t .place) (inv .no-fault) more (t .is-v), t .is-w)

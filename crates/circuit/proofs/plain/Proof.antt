@@ -1,0 +1,10 @@
+use Rattle.circuit.proofs.PlainLaws.{plain-cases}
+use borrow.Author.Needs.{needs}
+use Rattle.circuit.proofs.plain.Statement.{statement}
+use Rattle.circuit.proofs.plain.Tie as tie
+
+pub plain-spec : {M : Type 1} → statement M
+plain-spec =
+    tie.close
+    (tie.spec (λ c κs. search needs) (λ c. search needs) (λ c. search needs) (λ c κs. search plain-cases)
+    (λ c κs. search plain-cases) (λ c. search plain-cases) (λ c. search needs) (λ c. search plain-cases))

@@ -1,0 +1,20 @@
+use Prim.Native.Nat.{_-_}
+use Rattle.circuit.proofs.ValueLaws.{Evaluating, plain-start, gate-room, gate-small, gate-reads, bit-a, bit-b, plain-turn, plain-end}
+use borrow.Author.Needs.{needs}
+use Rattle.circuit.proofs.values.plain_gates.Statement.{statement}
+use Rattle.circuit.proofs.values.plain_gates.Tie as tie
+
+abbrev Inv-loop : tie.InvT-loop
+Inv-loop circuit n q wires₀ k₀ wires k = Evaluating circuit wires₀ n q k wires
+
+abbrev μ-loop : tie.MeasureT-loop
+μ-loop circuit n q wires₀ k₀ wires k = q - k
+
+pub plain-gates-spec : {M : Type 1} → statement M
+plain-gates-spec =
+    tie.close
+    (tie.spec Inv-loop μ-loop (λ c. search plain-start) (λ c κs. (search gate-room, search gate-small))
+    (λ c. search needs) (λ c. search needs) (λ c. search gate-reads) (λ c. search gate-reads)
+    (λ c. search gate-reads) (λ c. search gate-reads) (λ c κs. (search bit-a, search bit-b)) (λ c. search needs)
+    (λ c. search needs) (λ c. search needs) (λ c. search needs) (λ c. search plain-turn) (λ c. search needs)
+    (λ c. search plain-end))

@@ -1,0 +1,86 @@
+-- The answers of the inner functions, in the model's terms: each enum as a verdict or an `Answer`, and what it must be.
+use Prim.Native.Nat.{ℕ, _+_, _≤_}
+use mathlib.Core.Path.{_≡_}
+use mathlib.Core.List.{List}
+use lib.ListN.{length, getD, take}
+use Rattle.model.specs.declared.Gate.{Gate}
+use Rattle.model.specs.declared.Kind as Kinds
+use Rattle.model.specs.declared.Refusal.{Refusal}
+use Rattle.model.specs.declared.Sizes.{Sizes}
+use Rattle.model.specs.Bytes.{tabulate}
+use Rattle.model.specs.Circuit.{Kind, charged, free, refused, kindOf, charge, charges, inputs, outputs, gates, gateAt}
+use Rattle.model.specs.Refusals.{Verdict, fine, verdictOf, numberOf, placeOf, headVerdict, gateVerdict, recordVerdict, gatesVerdict, circuitVerdict}
+use Rattle.model.specs.Operations.{Answer, no, yes, answer, sizesOf, plainVerdict}
+use Rattle.circuit.specs.declared.header.Header.{Header}
+use Rattle.circuit.specs.declared.header.HeaderRead.{HeaderRead}
+use Rattle.circuit.specs.declared.gates.GateRead.{GateRead}
+use Rattle.circuit.specs.declared.gates.Searched.{Searched}
+use Rattle.circuit.specs.declared.values.Bits.{Bits}
+use Rattle.circuit.specs.declared.values.Ready.{Ready}
+
+-- ---- codes
+
+abbrev pub meaning : Kinds.Kind → Kind
+meaning (Kinds.Kind.Charged u v own) = charged (u .0) (v .0) (own .0)
+meaning (Kinds.Kind.Free p q c) = free p q c
+meaning Kinds.Kind.Refused = refused
+
+-- ---- the header
+
+abbrev pub headerOf : HeaderRead → Answer Header
+headerOf (HeaderRead.Fine h) = yes h
+headerOf (HeaderRead.Refused f) = no (verdictOf f)
+
+abbrev pub headerAnswer : List ℕ → Answer Header
+headerAnswer s = answer (headVerdict s) (record { n = inputs s; m = outputs s; q = gates s })
+
+-- ---- the gates: a gate without a fault adds its charge to p
+
+abbrev pub gateOf : GateRead → Answer ℕ
+gateOf GateRead.Charged = yes 1
+gateOf GateRead.Free = yes 0
+gateOf (GateRead.Fault f) = no (verdictOf f)
+
+abbrev pub gateAnswer : ℕ → Gate → Answer ℕ
+gateAnswer own g = answer (gateVerdict own g) (charge (kindOf (g .code)))
+
+abbrev pub recordAnswer : List ℕ → ℕ → ℕ → Answer ℕ
+recordAnswer s n k = answer (recordVerdict s n k) (charge (kindOf (gateAt s k .code)))
+
+abbrev pub searchOf : Searched → Answer ℕ
+searchOf (Searched.Clean p) = yes p
+searchOf (Searched.Fault f) = no (verdictOf f)
+
+abbrev pub searchAnswer : List ℕ → ℕ → ℕ → Answer ℕ
+searchAnswer s n q = answer (gatesVerdict s n q) (charges (tabulate q (gateAt s)))
+
+-- ---- plain
+
+-- every value is 0 or 1
+abbrev pub AllBits : List ℕ → Type 0
+AllBits v = (i : ℕ) → getD v i 0 ≤ 1
+
+abbrev pub bitsOf : Bits → Verdict
+bitsOf Bits.Fine = fine
+bitsOf (Bits.Fault i) = Verdict.refused 10 i
+
+abbrev pub readyOf : Ready → Answer Sizes
+readyOf (Ready.Go z) = yes z
+readyOf (Ready.Refused f) = no (verdictOf f)
+
+abbrev pub plainReady : List ℕ → List ℕ → ℕ → Answer Sizes
+plainReady c v room = answer (plainVerdict c v room) (sizesOf c)
+
+-- what the gates' evaluation starts from: an accepted circuit c, and the values of its inputs at the front of the buffer o
+pub record PlainStart (c o : List ℕ) (n q : ℕ) : Type 0 where
+  pub accepted : circuitVerdict c ≡ fine
+  pub is-n : n ≡ inputs c
+  pub is-q : q ≡ gates c
+  pub room : n + q ≤ length o
+  pub bits : AllBits (take n o)
+
+-- ---- a refusal as numbers
+
+pub record TurnedIs (f : Refusal) (number place : ℕ) : Type 0 where
+  pub is-number : number ≡ numberOf f
+  pub is-place : place ≡ placeOf f

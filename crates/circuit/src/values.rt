@@ -1,0 +1,87 @@
+// Values: the refusals of a value list, and what the plain circuit carries on the wires of its gates (01, Circuit).
+ghost use mathlib.Core.Path.{_≡_};
+ghost use lib.ListN.{take};
+ghost use Rattle.model.specs.Bytes.{over};
+ghost use Rattle.model.specs.Circuit.{circuitOf, plainValues};
+ghost use Rattle.model.specs.Refusals.{bitsVerdict};
+ghost use Rattle.circuit.specs.Answers.{bitsOf, readyOf, plainReady, PlainStart};
+use crate::check;
+use crate::code::code_value;
+use crate::gates::gate_at;
+use model::Checked;
+use model::Refusal;
+use model::Sizes;
+use model::Truth;
+
+// What the search of a value list finds: each value is a bit, or the index of the first that is none.
+pub enum Bits {
+    Fine,
+    Fault(usize),
+}
+
+// Whether an operation's arguments are worked through.
+pub enum Ready {
+    Go(Sizes),
+    Refused(Refusal),
+}
+
+// Refusal 10: the search leaves at the first value that is neither 0 nor 1.
+pub fn search_values(values: &[u8]) -> Bits
+    ensures { λ r. ⌜ bitsOf r ≡ bitsVerdict (now (values .entry)) ⌝ }
+{
+    let mut i: usize = 0;
+    let found = loop {
+        if values.len() <= i {
+            break Bits::Fine;
+        }
+        if 1 < values[i] {
+            break Bits::Fault(i);
+        }
+        i += 1;
+    };
+    found
+}
+
+// The refusals of plain, in order: 1 to 7, 9, 10, 19.
+pub fn plain_ready(circuit: &[u8], values: &[u8], room: usize) -> Ready
+    ensures { λ r. ⌜ readyOf r ≡ plainReady (now (circuit .entry)) (now (values .entry)) room ⌝ }
+{
+    match check(circuit) {
+        Checked::Refused(f) => Ready::Refused(f),
+        Checked::Accepted(z) => {
+            let n = z.n;
+            let q = z.q;
+            if values.len() != n {
+                return Ready::Refused(Refusal::ValuesLength(values.len()));
+            }
+            match search_values(values) {
+                Bits::Fault(i) => Ready::Refused(Refusal::Value(i)),
+                Bits::Fine => {
+                    if room < n + q {
+                        Ready::Refused(Refusal::Room(n + q))
+                    } else {
+                        Ready::Go(z)
+                    }
+                }
+            }
+        }
+    }
+}
+
+// The gates' values, written after the inputs' values, which stand at the front of the buffer.
+pub fn plain_gates(circuit: &[u8], n: usize, q: usize, wires: &mut [u8])
+    requires { ⌜ PlainStart (now circuit) (now wires) n q ⌝ }
+    ensures { λ _. ⌜ now (wires .exit) ≡ over (plainValues (circuitOf (now (circuit .entry))) (take n (now (wires .entry)))) (now (wires .entry)) ⌝ }
+{
+    let mut k: usize = 0;
+    while k < q {
+        let g = gate_at(circuit, k);
+        let a = g.a as usize;
+        let b = g.b as usize;
+        let u = Truth(wires[a - 1]);
+        let v = Truth(wires[b - 1]);
+        let x = code_value(g.code, u, v);
+        wires[n + k] = x.0;
+        k += 1;
+    }
+}
