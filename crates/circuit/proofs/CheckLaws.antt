@@ -7,10 +7,14 @@ use borrow.Author.Tests.{ltb-true, leb-true, not-false}
 use lib.ListN.{length}
 use Rattle.model.specs.declared.Gate.{Gate}
 use Rattle.model.specs.declared.Refusal.{Refusal}
+use Rattle.model.specs.declared.Sizes.{Sizes}
+use Rattle.model.specs.declared.Checked.{Checked}
 use Rattle.model.specs.Bytes.{tabulate}
 use Rattle.model.specs.Circuit.{charges, circuitOf, inputs, outputs, gates, gateAt, gateWire, operandsHold}
 use Rattle.model.specs.Refusals.{Verdict, fine, refused, _then_, verdictOf, headVerdict, gateVerdict, recordVerdict, gatesVerdict, circuitVerdict}
-use Rattle.model.specs.Operations.{Answer, no, yes, answer, sizesOf, checkAnswer}
+use Rattle.model.specs.Operations.{Answer, no, yes, answer, sizesOf, checkedOf, checkAnswer}
+use Rattle.model.proofs.Lists.{tabulate-length}
+use Rattle.model.proofs.Circuits.{charges-le}
 use Rattle.model.proofs.Verdicts.{yes-given, no-turned, no-then, no-other, Given, then-fine, refuse-fine, and-both, first-each}
 use Rattle.circuit.specs.Answers.{headerOf, headerAnswer, searchOf, searchAnswer}
 use Rattle.circuit.specs.declared.header.Header.{Header}
@@ -79,3 +83,21 @@ gate-holds s k e h =
     let a = and-both _ _ (not-false _ (refuse-fine _ _ _ (g .0))) in
     let b = and-both _ _ (a .0) in
     record { a-low = leb-true _ _ (b .0); order = ltb-true _ _ (b .1); b-high = ltb-true _ _ (a .1) }
+
+-- an accepted circuit's sizes, as check gives them
+module _ (s : List ℕ) (r : Checked) (is-r : checkedOf r ≡ checkAnswer s) (z : Sizes) (e : r ≡ Checked.Accepted z) where
+  accepted : Given (circuitVerdict s) z (sizesOf s)
+  accepted = yes-given (circuitVerdict s) z (sizesOf s) (rw e at is-r)
+
+  limits : HeaderHolds s
+  limits = circuit-header s (accepted .is-fine)
+
+  pub few-outputs : z .m ≤ 65535
+  unfolding sizesOf
+  few-outputs = rw (accepted .is-result) (omega (arith, limits .sizes .m-high, limits .sizes .sum))
+
+  pub few-charges : z .p ≤ 65535
+  unfolding sizesOf circuitOf
+  few-charges =
+      rw (accepted .is-result)
+      (omega (arith, charges-le (tabulate (gates s) (gateAt s)), tabulate-length (gates s) (gateAt s), limits .sizes .sum))

@@ -58,10 +58,12 @@ pub fn read_header(circuit: &[u8]) -> HeaderRead
     let n = read16(circuit, 2) as usize;
     let m = read16(circuit, 4) as usize;
     let q = read16(circuit, 6) as usize;
-    if !sizes_hold(n, m, q) {
+    let hold = sizes_hold(n, m, q);
+    let whole = 8 + 7 * q;
+    if !hold {
         return HeaderRead::Refused(Refusal::Limits);
     }
-    if len != 8 + 7 * q {
+    if len != whole {
         return HeaderRead::Refused(Refusal::CircuitLength(len));
     }
     HeaderRead::Fine(Header { n, m, q })

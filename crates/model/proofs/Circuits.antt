@@ -6,12 +6,23 @@ use mathlib.Core.Path.{_≡_, refl, sym, ap, _∙_}
 use mathlib.Core.List.{List, [], _∷_, _++_}
 use lib.ListN.{length, length-append}
 use Rattle.model.specs.declared.Gate.{Gate}
-use Rattle.model.specs.Circuit.{kindOf, charge, charges, wires}
+use Rattle.model.specs.Circuit.{Kind, charged, free, refused, kindOf, charge, charges, wires}
 
 pub charges-snoc : (gs : List Gate) (g : Gate) → charges (gs ++ (g ∷ [])) ≡ charges gs + charge (kindOf (g .code))
 unfolding charges
 charges-snoc [] g = omega arith
 charges-snoc (x ∷ gs) g = omega (arith, charges-snoc gs g)
+
+charge-le : (k : Kind) → charge k ≤ 1
+charge-le (charged u v x) = omega arith
+charge-le (free p q c) = omega arith
+charge-le refused = omega arith
+
+-- no more charged gates than gates
+pub charges-le : (gs : List Gate) → charges gs ≤ length gs
+unfolding charges
+charges-le [] = omega arith
+charges-le (g ∷ gs) = omega (arith, charge-le (kindOf (g .code)), charges-le gs)
 
 module _ {A : Type 0} (step : List A → Gate → A) where
   pub wires-snoc : (gs : List Gate) (g : Gate) (ws : List A) → wires step (gs ++ (g ∷ [])) ws ≡ wires step gs ws ++ (step (wires step gs ws) g ∷ [])

@@ -8,5 +8,5 @@ read-header-spec =
     tie.close
     (tie.spec (λ c. search header-cases) (λ c. search needs) (λ c. search header-cases) (λ c. search needs)
     (λ c. search header-cases) (λ c κs. search needs) (λ c. search needs) (λ c κs. search needs) (λ c. search needs)
-    (λ c κs. search needs) (λ c. search needs) (λ c κs. search needs) (λ c. search header-cases) (λ c. search needs)
-    (λ c. search needs) (λ c. search header-cases) (λ c. search header-cases))
+    (λ c κs. search needs) (λ c. search needs) (λ c κs. search needs) (λ c. search needs) (λ c. search needs)
+    (λ c. search header-cases) (λ c. search header-cases) (λ c. search header-cases))
