@@ -3,8 +3,14 @@ pub mod Bytes
 pub mod Circuit
 pub mod Aes
 pub mod Tokens
+pub mod Scheme
+pub mod Gax
+pub mod Gaxr
 pub mod HalfGates
+pub mod Garbling
 pub mod Material
+pub mod Evaluation
 pub mod Refusals
 pub mod Operations
+pub mod Demand3
 pub mod Examples

@@ -1,0 +1,64 @@
+-- Demand 3: the chain of garble, encode, evaluate and decode is right on every wire. Document 01, "Operations".
+use Prim.Native.Nat.{ℕ, _+_, _*_, _≤_, _<_}
+use mathlib.Core.Path.{_≡_}
+use mathlib.Core.Logic.{_↔_}
+use mathlib.Core.List.{List, map}
+use lib.ListN.{length, getD, take}
+use Rattle.model.specs.Circuit.{Circuit, circuitOf, inputs, gates, wire, plainValues}
+use Rattle.model.specs.Aes.{Block, block}
+use Rattle.model.specs.Tokens.{Garbling, distance, offset}
+use Rattle.model.specs.Garbling.{zeroTokens, inputOnes}
+use Rattle.model.specs.Material.{joinBlocks, material}
+use Rattle.model.specs.Evaluation.{encodeBytes, evaluateBytes, decodeBytes, tokenAt, outputTokens}
+use Rattle.model.specs.Refusals.{fine, circuitVerdict}
+
+-- "every accepted circuit, each scheme, every 16-byte seed and every list of input bits, one for each input"
+pub record Allowed (c seed : List ℕ) (scheme : ℕ) (values : List ℕ) : Type 0 where
+  pub accepted : circuitVerdict c ≡ fine
+  pub scheme-low : 1 ≤ scheme
+  pub scheme-high : scheme ≤ 3
+  pub seed-bytes : length seed ≡ 16
+  pub one-each : length values ≡ inputs c
+  pub bits : (i : ℕ) → getD values i 0 ≤ 1
+
+module _ (c seed : List ℕ) (scheme : ℕ) (values : List ℕ) where
+  -- "The circuit is garbled by that scheme from that seed"
+  abbrev pub chained : Garbling
+  chained = record { circuit = circuitOf c; seed = seed; scheme = scheme }
+
+  unfoldable pub chainMaterial : List ℕ
+  chainMaterial = material chained
+
+  unfoldable pub chainZeros : List ℕ
+  chainZeros = joinBlocks (zeroTokens chained)
+
+  unfoldable pub chainOnes : List ℕ
+  chainOnes = joinBlocks (inputOnes chained)
+
+  -- "the bits are encoded with the tokens so made": "Encode gets the first 16n bytes of the zero tokens and the one tokens"
+  unfoldable pub chainInputs : List ℕ
+  chainInputs = encodeBytes (circuitOf c) values (take (16 * inputs c) chainZeros) chainOnes
+
+  -- "evaluation works that encoding through the material so made"
+  unfoldable pub chainTokens : List ℕ
+  chainTokens = evaluateBytes (circuitOf c) chainInputs chainMaterial
+
+  -- "decode gets that material and evaluate's tokens of the m outputs"
+  unfoldable pub chainBits : List ℕ
+  chainBits = decodeBytes (circuitOf c) (outputTokens (circuitOf c) chainTokens) chainMaterial
+
+  -- what the plain circuit carries on wire w
+  unfoldable pub carries : ℕ → ℕ
+  carries w = wire 0 (plainValues (circuitOf c) values) w
+
+  -- "on every wire the distance .. between the token that evaluation leaves there and that wire's zero token"
+  unfoldable pub distanceAt : ℕ → Block
+  distanceAt w = distance (tokenAt chainTokens w) (tokenAt chainZeros w)
+
+  -- "is the all-zero block exactly when the plain circuit carries 0 there, and the seed's offset R exactly when it carries 1.
+  -- Decoding the tokens that evaluation left on the outputs, with the same material, gives exactly the bits that the plain
+  -- circuit carries there, in the order of the outputs."
+  pub record Demand3 : Type 0 where
+    pub at-zero : (w : ℕ) → 1 ≤ w → w ≤ inputs c + gates c → (distanceAt w ≡ block 0) ↔ (carries w ≡ 0)
+    pub at-one : (w : ℕ) → 1 ≤ w → w ≤ inputs c + gates c → (distanceAt w ≡ offset chained) ↔ (carries w ≡ 1)
+    pub decoded : chainBits ≡ map carries (circuitOf c .outputs)

@@ -1,0 +1,79 @@
+-- Evaluation of a garbled circuit, over anyone's rows. Document 01, "Tokens", "Scheme 1" to "Scheme 3", "Material" and "Operations".
+use Prim.Native.Nat.{ℕ, zero, suc, _+_, _*_, _-_}
+use mathlib.Core.List.{List, [], _∷_, _++_, map}
+use lib.ListN.{length, getD, take, drop}
+use lib.Bits.{differ}
+use Rattle.model.specs.declared.Gate.{Gate}
+use Rattle.model.specs.Circuit.{Circuit, Kind, charged, free, refused, kindOf, wire}
+use Rattle.model.specs.Aes.{Block, block}
+use Rattle.model.specs.Tokens.{colour, freeToken}
+use Rattle.model.specs.Scheme.{Scheme}
+use Rattle.model.specs.Garbling.{own, schemeOf}
+use Rattle.model.specs.Material.{joinBlocks}
+
+-- the first k blocks of bytes
+unfoldable pub cut : ℕ → List ℕ → List Block
+cut zero bs = []
+cut (suc k) bs = take 16 bs ∷ cut k (drop 16 bs)
+
+-- ---- encoding: "for each input its token in the zero list for value 0, in the one list for value 1"
+
+unfoldable pub encode : List ℕ → List Block → List Block → List Block
+encode [] zs os = []
+encode (v ∷ vs) zs os = getD (getD zs 0 (block 0) ∷ getD os 0 (block 0) ∷ []) v (block 0) ∷ encode vs (drop 1 zs) (drop 1 os)
+
+-- ---- evaluating: bs is what is left of the material, from the next row record on
+
+module _ (S : Scheme) where
+  -- the token of a gate's wire g, holding A and B
+  unfoldable pub openAt : Kind → ℕ → List ℕ → Block → Block → Block
+  openAt (charged u v x) g bs A B = S .opened g (cut (S .stored) (drop 4 bs)) A B
+  openAt (free p q c) g bs A B = freeToken p q A B
+  openAt refused g bs A B = block 0
+
+  unfoldable pub openStep : List ℕ → List Block → Gate → Block
+  openStep bs ts g = openAt (kindOf (g .code)) (own ts) bs (wire (block 0) ts (g .a)) (wire (block 0) ts (g .b))
+
+  -- what is left past the gate's record: mark and wire number, 4 bytes, and its rows
+  unfoldable pub past : Kind → List ℕ → List ℕ
+  past (charged u v x) bs = drop (4 + 16 * S .stored) bs
+  past (free p q c) bs = bs
+  past refused bs = bs
+
+  -- the tokens of all wires, from those of the wires before the gates gs
+  unfoldable pub run : List Gate → List ℕ → List Block → List Block
+  run [] bs ts = ts
+  run (g ∷ gs) bs ts = run gs (past (kindOf (g .code)) bs) (ts ++ (openStep bs ts g ∷ []))
+
+-- the tokens of all wires; the header has 9 bytes, and its byte 2 is the scheme
+unfoldable pub evaluate : Circuit → List Block → List ℕ → List Block
+evaluate c ts material = run (schemeOf (getD material 2 0)) (c .gates) (drop 9 material) ts
+
+-- ---- decoding: "each the token's colour ⊕ the material's byte"
+
+unfoldable pub decodeWith : List Block → List ℕ → List ℕ
+decodeWith [] ds = []
+decodeWith (t ∷ ts) ds = differ (colour t) (getD ds 0 0) ∷ decodeWith ts (drop 1 ds)
+
+-- the material's last bytes, one for each output
+unfoldable pub decode : Circuit → List Block → List ℕ → List ℕ
+decode c ts material = decodeWith ts (drop (length material - length (c .outputs)) material)
+
+-- ---- the same on bytes
+
+unfoldable pub encodeBytes : Circuit → List ℕ → List ℕ → List ℕ → List ℕ
+encodeBytes c values zs os = joinBlocks (encode values (cut (c .n) zs) (cut (c .n) os))
+
+unfoldable pub evaluateBytes : Circuit → List ℕ → List ℕ → List ℕ
+evaluateBytes c tokens material = joinBlocks (evaluate c (cut (c .n) tokens) material)
+
+unfoldable pub decodeBytes : Circuit → List ℕ → List ℕ → List ℕ
+decodeBytes c tokens material = decode c (cut (length (c .outputs)) tokens) material
+
+-- the token of wire w in a list of tokens
+unfoldable pub tokenAt : List ℕ → ℕ → Block
+tokenAt bytes w = take 16 (drop (16 * (w - 1)) bytes)
+
+-- the tokens of the outputs, in their order
+unfoldable pub outputTokens : Circuit → List ℕ → List ℕ
+outputTokens c bytes = joinBlocks (map (tokenAt bytes) (c .outputs))

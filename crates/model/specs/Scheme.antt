@@ -1,0 +1,21 @@
+-- What a scheme is: what garbling and evaluation do at a charged gate. Document 01, "Scheme 1" to "Scheme 3", each give one.
+use Prim.Native.Nat.{ℕ}
+use mathlib.Core.List.{List}
+use Rattle.model.specs.Aes.{Block}
+
+-- What garbling knows at a charged gate.
+pub record Site : Type 0 where
+  pub R : Block  -- the seed's offset
+  pub fresh : Block  -- AES under the seed of block g
+  pub g : ℕ  -- the gate's wire number
+  pub code : ℕ  -- its code
+  pub Xa : Block  -- the zero tokens of its operands
+  pub Xb : Block
+
+pub record Scheme : Type 0 where
+  pub stored : ℕ  -- r, the rows that the material has of a charged gate
+  pub zeroToken : Site → Block  -- X of the gate
+  pub rows : Site → List Block  -- its rows, in the material's order
+  pub opened : ℕ → List Block → Block → Block → Block  -- evaluation at wire g, from the rows and the tokens held on a and b
+  pub garbleCalls : ℕ  -- calls of π, garbling
+  pub evaluateCalls : ℕ  -- and evaluating
