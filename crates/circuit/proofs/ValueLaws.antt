@@ -161,3 +161,6 @@ module _ (c o : List ℕ) (n q : ℕ) (start : PlainStart c o n q) where
 
 -- what the reads of a gate's operands ask
 pub ruleset gate-reads = (gate-low, gate-low-2, read-a, read-b)
+
+-- and that what is read there is a truth value
+pub ruleset gate-bits = (bit-a, bit-b)

@@ -1,5 +1,5 @@
 use Prim.Native.Nat.{_-_}
-use Rattle.circuit.proofs.ValueLaws.{Evaluating, plain-start, gate-room, gate-small, gate-reads, bit-a, bit-b, plain-turn, plain-end}
+use Rattle.circuit.proofs.ValueLaws.{Evaluating, plain-start, gate-room, gate-small, gate-reads, gate-bits, plain-turn, plain-end}
 use borrow.Author.Needs.{needs}
 use Rattle.circuit.proofs.values.plain_gates.Statement.{statement}
 use Rattle.circuit.proofs.values.plain_gates.Tie as tie
@@ -15,6 +15,6 @@ plain-gates-spec =
     tie.close
     (tie.spec Inv-loop μ-loop (λ c. search plain-start) (λ c κs. (search gate-room, search gate-small))
     (λ c. search needs) (λ c. search needs) (λ c. search gate-reads) (λ c. search gate-reads)
-    (λ c. search gate-reads) (λ c. search gate-reads) (λ c κs. (search bit-a, search bit-b)) (λ c. search needs)
+    (λ c. search gate-reads) (λ c. search gate-reads) (λ c κs. (search gate-bits, search gate-bits)) (λ c. search needs)
     (λ c. search needs) (λ c. search needs) (λ c. search needs) (λ c. search plain-turn) (λ c. search needs)
     (λ c. search plain-end))

@@ -1,0 +1,2 @@
+-- What the reader of lines promises.
+pub mod Fields

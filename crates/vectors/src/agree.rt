@@ -1,0 +1,138 @@
+// Whether a case agrees with the proved functions: its arguments, and what must come of them, are the fields of its line.
+use aes::encrypt;
+use aes::expand_key;
+use aes::s_box;
+use block::Block;
+use check::same;
+use circuit::refusal::number_and_place;
+use model::Checked;
+use model::Ran;
+use model::Refusal;
+
+// The 16 bytes of a field; of a field of another length, none agrees with anything.
+fn block_of(field: &[u8]) -> Block {
+    let mut bytes = [0u8; 16];
+    if field.len() == 16 {
+        buffer::copy_front(field, &mut bytes);
+    }
+    Block { bytes }
+}
+
+// A number as 4 bytes, big-endian, as an answer has it.
+fn word(n: usize) -> [u8; 4] {
+    [
+        (n / 16777216 % 256) as u8,
+        (n / 65536 % 256) as u8,
+        (n / 256 % 256) as u8,
+        (n % 256) as u8,
+    ]
+}
+
+// Key, plaintext, ciphertext.
+fn encryption(key: &[u8], plaintext: &[u8], ciphertext: &[u8]) -> bool {
+    let t = s_box();
+    let w = expand_key(&t, block_of(key));
+    let c = encrypt(&t, &w, block_of(plaintext));
+    let bytes = c.bytes;
+    same(&bytes, ciphertext)
+}
+
+// Key, and its schedule of 44 words.
+fn expansion(key: &[u8], schedule: &[u8]) -> bool {
+    let t = s_box();
+    let w = expand_key(&t, block_of(key));
+    same(&w, schedule)
+}
+
+// A, 2A, 4A.
+fn doubling(a: &[u8], twice: &[u8], four: &[u8]) -> bool {
+    let x = block_of(a);
+    let y = x.doubled().bytes;
+    let z = x.quadrupled().bytes;
+    same(&y, twice) && same(&z, four)
+}
+
+// A refusal's number, of 1 byte, and its place, of 4.
+fn refused(f: Refusal, answer: &[u8]) -> bool {
+    let t = number_and_place(f);
+    let p = word(t.place);
+    let given = [t.number, p[0], p[1], p[2], p[3]];
+    same(&given, answer)
+}
+
+// Circuit, and the answer: 00 and n, m, q, p of 4 bytes each, or the refusal.
+fn checking(circuit: &[u8], answer: &[u8]) -> bool {
+    match circuit::check(circuit) {
+        Checked::Refused(f) => refused(f, answer),
+        Checked::Accepted(z) => {
+            let n = word(z.n);
+            let m = word(z.m);
+            let q = word(z.q);
+            let p = word(z.p);
+            if answer.len() != 17 {
+                return false;
+            }
+            answer[0] == 0
+                && same(&n, &answer[1..5])
+                && same(&m, &answer[5..9])
+                && same(&q, &answer[9..13])
+                && same(&p, &answer[13..17])
+        }
+    }
+}
+
+// Plain on a buffer that holds `before`: the answer (00 or the refusal), and the buffer after.
+fn plain_leaves(
+    circuit: &[u8],
+    values: &[u8],
+    before: &[u8],
+    answer: &[u8],
+    after: &[u8],
+    wires: &mut [u8],
+) -> bool {
+    if wires.len() < before.len() {
+        return false;
+    }
+    buffer::copy_front(before, wires);
+    let agreed = match circuit::plain(circuit, values, wires) {
+        Ran::Refused(f) => refused(f, answer),
+        Ran::Done => same(&[0u8], answer),
+    };
+    agreed && same(wires, after)
+}
+
+// Circuit, values, the buffer before, the answer, and the buffer after.
+fn plain_run(
+    circuit: &[u8],
+    values: &[u8],
+    before: &[u8],
+    answer: &[u8],
+    after: &[u8],
+    work: &mut [u8],
+) -> bool {
+    let room = before.len();
+    if work.len() < room {
+        return false;
+    }
+    plain_leaves(circuit, values, before, answer, after, &mut work[..room])
+}
+
+// By group: 1 encryption, 2 key expansion, 3 doubling, 4 check, 5 plain. `work` is room for an operation to write in.
+pub fn agrees(
+    group: u8,
+    a: &[u8],
+    b: &[u8],
+    c: &[u8],
+    d: &[u8],
+    e: &[u8],
+    work: &mut [u8],
+) -> bool {
+    match group {
+        1 => encryption(a, b, c),
+        2 => expansion(a, b),
+        3 => doubling(a, b, c),
+        4 => checking(a, b),
+        5 => plain_run(a, b, c, d, e, work),
+        _ => false,
+    }
+}

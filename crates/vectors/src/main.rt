@@ -1,0 +1,41 @@
+// The test program: outside vectors against the proved functions. Each file of data/ has a case a line, and each group
+// prints how many of its cases agree.
+use crate::cases::Tally;
+use crate::cases::run;
+use libc::STDOUT_FILENO;
+
+mod agree;
+mod cases;
+mod line;
+
+// ": N of M agree", and the end of the line.
+fn print_tally(t: Tally) {
+    io::write_all(STDOUT_FILENO, b": ");
+    io::print_decimal(STDOUT_FILENO, t.agreed as u64);
+    io::write_all(STDOUT_FILENO, b" of ");
+    io::print_decimal(STDOUT_FILENO, t.cases as u64);
+    io::write_all(STDOUT_FILENO, b" agree\n");
+}
+
+// The cases of one file, in the form of its group (agree.rt).
+fn run_file(group: u8, path: &[u8]) {
+    io::write_all(STDOUT_FILENO, path);
+    let file = os::open_read(path);
+    if file < 0 {
+        os::fail(path);
+        return;
+    }
+    let mut text = io::large_buffer();
+    let len = io::read_full(file, &mut text);
+    libc::close(file);
+    print_tally(run(group, &text[..len]));
+}
+
+fn main() {
+    run_file(1, b"fips197-encryption");
+    run_file(2, b"fips197-key-expansion");
+    run_file(3, b"doubling");
+    run_file(4, b"examples");
+    run_file(4, b"check");
+    run_file(5, b"plain");
+}

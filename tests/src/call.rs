@@ -1,0 +1,195 @@
+//! Calls as values: an operation with all it is handed, and what came of it. Any implementation
+//! that can run a call can be compared with this one.
+
+use crate::circuit::{Circuit, Gate, Sizes};
+use crate::operations as op;
+use crate::refused::Refused;
+
+/// An operation (01, Operations).
+#[derive(Clone, Copy, Debug, Default, PartialEq, Eq, PartialOrd, Ord)]
+pub enum Operation {
+    /// Check.
+    #[default]
+    Check,
+    /// Plain.
+    Plain,
+    /// Garble.
+    Garble,
+    /// Encode.
+    Encode,
+    /// Evaluate, from circuit bytes.
+    Evaluate,
+    /// Evaluate, from a list of gates.
+    EvaluateGates,
+    /// Decode.
+    Decode,
+    /// Pick.
+    Pick,
+}
+
+impl Operation {
+    /// All operations.
+    pub const ALL: [Operation; 8] = [
+        Operation::Check,
+        Operation::Plain,
+        Operation::Garble,
+        Operation::Encode,
+        Operation::Evaluate,
+        Operation::EvaluateGates,
+        Operation::Decode,
+        Operation::Pick,
+    ];
+
+    /// The numbers of the refusals that the operation has arguments for.
+    pub fn refusals(self) -> &'static [u8] {
+        match self {
+            Operation::Check => &[1, 2, 3, 4, 5, 6, 7],
+            Operation::Plain => &[1, 2, 3, 4, 5, 6, 7, 9, 10, 19],
+            Operation::Garble => &[1, 2, 3, 4, 5, 6, 7, 8, 14, 19],
+            Operation::Encode => &[1, 2, 3, 4, 5, 6, 7, 9, 10, 11, 19],
+            Operation::Evaluate | Operation::Decode => {
+                &[1, 2, 3, 4, 5, 6, 7, 11, 12, 13, 14, 15, 16, 17, 18, 19]
+            }
+            Operation::EvaluateGates => &[3, 6, 7, 11, 12, 13, 14, 15, 16, 17, 18, 19],
+            Operation::Pick => &[10, 11, 20],
+        }
+    }
+}
+
+/// One call. Only the arguments of its operation count; the others are empty.
+#[derive(Clone, Debug, Default, PartialEq, Eq)]
+pub struct Call {
+    /// The operation called.
+    pub operation: Operation,
+    /// Circuit bytes (all but evaluate's list form and pick).
+    pub circuit: Vec<u8>,
+    /// n of the list form.
+    pub n: u16,
+    /// m of the list form.
+    pub m: u16,
+    /// The gates of the list form.
+    pub gates: Vec<Gate>,
+    /// Garble's seed.
+    pub seed: Vec<u8>,
+    /// Garble's scheme byte.
+    pub scheme: u8,
+    /// The value list of plain and encode.
+    pub values: Vec<u8>,
+    /// The zero list of encode and pick.
+    pub zero: Vec<u8>,
+    /// The one list of encode and pick.
+    pub one: Vec<u8>,
+    /// The tokens of evaluate and decode.
+    pub tokens: Vec<u8>,
+    /// The material of evaluate and decode.
+    pub material: Vec<u8>,
+    /// Pick's wire.
+    pub wire: u16,
+    /// Pick's bit.
+    pub bit: u8,
+    /// The lengths of the output buffers, in 01's order.
+    pub lens: Vec<usize>,
+    /// What every byte of the output buffers is before the call.
+    pub fill: u8,
+}
+
+/// What came of a call.
+#[derive(Clone, Debug, PartialEq, Eq)]
+pub struct Outcome {
+    /// The numbers returned (check: n, m, q, p; garble: length, calls; evaluate: calls; the others
+    /// none), or the refusal.
+    pub answer: Result<Vec<u64>, Refused>,
+    /// The whole output buffers after the call; for pick, the part.
+    pub buffers: Vec<Vec<u8>>,
+}
+
+impl Call {
+    /// The output buffers before the call.
+    pub fn buffers(&self) -> Vec<Vec<u8>> {
+        let buffer = |&len: &usize| vec![self.fill; len];
+        self.lens.iter().map(buffer).collect()
+    }
+
+    /// The circuit handed in, as bytes or as a list.
+    pub fn read_circuit(&self) -> Result<Circuit, Refused> {
+        match self.operation {
+            Operation::EvaluateGates => Circuit::from_gates(self.n, self.m, &self.gates),
+            _ => Circuit::read(&self.circuit),
+        }
+    }
+
+    /// Runs the call on this implementation.
+    pub fn run(&self) -> Outcome {
+        match self.operation {
+            Operation::Check => self.run_check(),
+            Operation::Garble => self.run_garble(),
+            Operation::Pick => self.run_pick(),
+            _ => self.run_with_one_buffer(),
+        }
+    }
+
+    fn run_check(&self) -> Outcome {
+        let numbers = |sizes: Sizes| {
+            let numbers = [sizes.n, sizes.m, sizes.q, sizes.p];
+            numbers.map(|number| number as u64).to_vec()
+        };
+        Outcome {
+            answer: op::check(&self.circuit).map(numbers),
+            buffers: Vec::new(),
+        }
+    }
+
+    fn run_garble(&self) -> Outcome {
+        let mut buffers = self.buffers();
+        let [material, zeros, ones] = buffers.as_mut_slice() else {
+            panic!("garble has three output buffers");
+        };
+        let garbled = op::garble(
+            &self.circuit,
+            &self.seed,
+            self.scheme,
+            material,
+            zeros,
+            ones,
+        );
+        let answer = garbled.map(|garbled| vec![garbled.length, garbled.calls]);
+        Outcome { answer, buffers }
+    }
+
+    fn run_pick(&self) -> Outcome {
+        let (zero, one) = (&self.zero, &self.one);
+        let answer = op::check_pick(zero, one, self.wire, self.bit);
+        let part = op::pick(zero, one, self.wire, self.bit);
+        Outcome {
+            answer: answer.map(|()| Vec::new()),
+            buffers: vec![part.to_vec()],
+        }
+    }
+
+    fn run_with_one_buffer(&self) -> Outcome {
+        let mut buffers = self.buffers();
+        let [out] = buffers.as_mut_slice() else {
+            panic!("{:?} has one output buffer", self.operation);
+        };
+        let (circuit, tokens, material) = (&self.circuit, &self.tokens, &self.material);
+        let nothing = |()| Vec::new();
+        let answer = match self.operation {
+            Operation::Plain => op::plain(circuit, &self.values, out).map(nothing),
+            Operation::Encode => {
+                op::encode(circuit, &self.values, &self.zero, &self.one, out).map(nothing)
+            }
+            Operation::Evaluate => {
+                op::evaluate(circuit, tokens, material, out).map(|calls| vec![calls])
+            }
+            Operation::EvaluateGates => {
+                op::evaluate_gates(self.n, self.m, &self.gates, tokens, material, out)
+                    .map(|calls| vec![calls])
+            }
+            Operation::Decode => op::decode(circuit, tokens, material, out).map(nothing),
+            Operation::Check | Operation::Garble | Operation::Pick => {
+                unreachable!("run sends these elsewhere")
+            }
+        };
+        Outcome { answer, buffers }
+    }
+}

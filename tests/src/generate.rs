@@ -1,0 +1,213 @@
+//! Random arguments that are accepted, and calls made of them. The same generator state gives the
+//! same arguments.
+
+pub mod damage;
+
+use crate::block::{Block, Colour, BLOCK};
+use crate::call::{Call, Operation};
+use crate::circuit::{to_bytes, Circuit, Gate, Sizes};
+use crate::material::{self, Material};
+use crate::operations;
+use crate::random::Random;
+use crate::scheme::Scheme;
+
+const CHARGED: [u8; 8] = [1, 2, 4, 7, 8, 11, 13, 14];
+const FREE: [u8; 2] = [6, 9];
+
+/// An accepted circuit of n inputs and q gates, of which about `charged` in a hundred are charged.
+/// m is 1, q or something between.
+pub fn circuit(random: &mut Random, n: u16, q: u16, charged: usize) -> Vec<u8> {
+    let m = match random.below(4) {
+        0 => 1,
+        1 => q,
+        _ => random.between(1, usize::from(q)) as u16,
+    };
+    let first = usize::from(n) + 1;
+    let gates: Vec<Gate> = (first..first + usize::from(q))
+        .map(|wire| gate(random, wire, charged))
+        .collect();
+    to_bytes(n, m, &gates)
+}
+
+/// A gate for a wire; half of the gates take both operands from the wires just before it.
+fn gate(random: &mut Random, wire: usize, charged: usize) -> Gate {
+    let last = wire - 1;
+    let lowest = if random.chance(50) {
+        1
+    } else {
+        last.saturating_sub(6).max(1)
+    };
+    let b = random.between(lowest + 1, last);
+    let a = random.between(lowest, b - 1);
+    let code = if random.chance(charged) {
+        random.one_of(&CHARGED)
+    } else {
+        random.one_of(&FREE)
+    };
+    let (a, b) = (a as u16, b as u16);
+    Gate { a, b, code }
+}
+
+/// A small accepted circuit of any kind, now and then without charged or without free gates.
+pub fn small_circuit(random: &mut Random) -> Vec<u8> {
+    let most_inputs = random.one_of(&[3, 10, 40]);
+    let most_gates = random.one_of(&[2, 12, 60]);
+    let n = random.between(2, most_inputs) as u16;
+    let q = random.between(1, most_gates) as u16;
+    let charged = random.one_of(&[0, 30, 60, 100]);
+    circuit(random, n, q, charged)
+}
+
+/// A seed of 16 bytes.
+pub fn seed(random: &mut Random) -> Vec<u8> {
+    random.bytes(BLOCK)
+}
+
+/// A list of values, 0 or 1 each.
+pub fn values(random: &mut Random, count: usize) -> Vec<u8> {
+    (0..count).map(|_| random.below(2) as u8).collect()
+}
+
+/// A list of any tokens.
+pub fn tokens(random: &mut Random, count: usize) -> Vec<u8> {
+    random.bytes(BLOCK * count)
+}
+
+/// A stranger's material: well-formed for the circuit, with random rows and colours.
+pub fn stranger(random: &mut Random, circuit: &Circuit, scheme: Scheme) -> Vec<u8> {
+    let Sizes { m, p, .. } = circuit.sizes();
+    let length = BLOCK * scheme.rows();
+    let rows = (0..p).map(|_| Block::list(&random.bytes(length))).collect();
+    let colours = (0..m).map(|_| Colour(random.chance(50))).collect();
+    let material = Material {
+        scheme,
+        rows,
+        colours,
+    };
+    material.to_bytes(circuit)
+}
+
+/// The material that garbling the circuit from some seed makes.
+pub fn garbled(random: &mut Random, circuit: &Circuit, scheme: Scheme) -> Vec<u8> {
+    let sizes = circuit.sizes();
+    let mut material = vec![0; material::length(sizes, scheme)];
+    let mut zeros = vec![0; BLOCK * sizes.wires()];
+    let mut ones = vec![0; BLOCK * sizes.n];
+    let (bytes, seed) = (circuit.to_bytes(), seed(random));
+    let scheme = scheme.byte();
+    operations::garble(&bytes, &seed, scheme, &mut material, &mut zeros, &mut ones)
+        .expect("an accepted circuit, a seed and room");
+    material
+}
+
+/// A call of the operation that is not refused.
+pub fn call(random: &mut Random, operation: Operation) -> Call {
+    let bytes = small_circuit(random);
+    call_on(random, operation, &bytes)
+}
+
+/// A call of the operation on an accepted circuit, not refused; buffers have some bytes to spare.
+pub fn call_on(random: &mut Random, operation: Operation, bytes: &[u8]) -> Call {
+    let circuit = Circuit::read(bytes).expect("an accepted circuit");
+    let Sizes { n, m, .. } = circuit.sizes();
+    let mut call = Call {
+        operation,
+        fill: random.byte(),
+        ..Call::default()
+    };
+    add_circuit(&mut call, &circuit);
+    match operation {
+        Operation::Check => {}
+        Operation::Plain => call.values = values(random, n),
+        Operation::Garble => {
+            call.seed = seed(random);
+            call.scheme = random.between(1, 3) as u8;
+        }
+        Operation::Encode => {
+            call.values = values(random, n);
+            (call.zero, call.one) = (tokens(random, n), tokens(random, n));
+        }
+        Operation::Evaluate | Operation::EvaluateGates => {
+            add_material(random, &mut call, &circuit, n)
+        }
+        Operation::Decode => add_material(random, &mut call, &circuit, m),
+        Operation::Pick => add_lists(random, &mut call, n),
+    }
+    let needed = room(&call).expect("an accepted circuit");
+    call.lens = needed.iter().map(|len| len + random.below(40)).collect();
+    call
+}
+
+/// The circuit in the operation's form: bytes, a list, or nothing.
+fn add_circuit(call: &mut Call, circuit: &Circuit) {
+    match call.operation {
+        Operation::EvaluateGates => {
+            let Sizes { n, m, .. } = circuit.sizes();
+            (call.n, call.m) = (n as u16, m as u16);
+            call.gates = circuit.gates().map(|(_, gate)| gate).collect();
+        }
+        Operation::Pick => {}
+        _ => call.circuit = circuit.to_bytes(),
+    }
+}
+
+/// Tokens, and material that garbling made or a stranger.
+fn add_material(random: &mut Random, call: &mut Call, circuit: &Circuit, count: usize) {
+    let scheme = random.one_of(&[Scheme::GaX, Scheme::GaXR, Scheme::HalfGates]);
+    call.tokens = tokens(random, count);
+    call.material = if random.chance(50) {
+        garbled(random, circuit, scheme)
+    } else {
+        stranger(random, circuit, scheme)
+    };
+}
+
+/// Pick's two lists, wire and bit.
+fn add_lists(random: &mut Random, call: &mut Call, count: usize) {
+    (call.zero, call.one) = (tokens(random, count), tokens(random, count));
+    call.wire = random.between(1, count) as u16;
+    call.bit = random.below(2) as u8;
+}
+
+/// The bytes that the call's output buffers need, in 01's order; nothing where its circuit or its
+/// scheme is refused.
+pub fn room(call: &Call) -> Option<Vec<usize>> {
+    if matches!(call.operation, Operation::Check | Operation::Pick) {
+        return Some(Vec::new());
+    }
+    let sizes = call.read_circuit().ok()?.sizes();
+    let Sizes { n, m, .. } = sizes;
+    let wires = sizes.wires();
+    Some(match call.operation {
+        Operation::Plain => vec![wires],
+        Operation::Garble => {
+            let scheme = Scheme::from_byte(call.scheme)?;
+            vec![material::length(sizes, scheme), BLOCK * wires, BLOCK * n]
+        }
+        Operation::Encode => vec![BLOCK * n],
+        Operation::Decode => vec![m],
+        _ => vec![BLOCK * wires],
+    })
+}
+
+/// Bytes for the program: noise, a right header before noise, or a circuit, sound or damaged.
+pub fn program_input(random: &mut Random) -> Vec<u8> {
+    let any_length = random.one_of(&[9, 60, 700]);
+    let noise = random.below(any_length);
+    match random.below(4) {
+        0 => random.bytes(noise),
+        1 => {
+            let mut bytes = small_circuit(random);
+            bytes.truncate(8);
+            bytes.extend(random.bytes(noise));
+            bytes
+        }
+        2 => small_circuit(random),
+        _ => {
+            let numbers: Vec<u8> = (0..random.between(1, 2))
+                .map(|_| random.one_of(Operation::Check.refusals()))
+                .collect();
+            damage::damaged_call(random, Operation::Check, &numbers).circuit
+        }
+    }
+}

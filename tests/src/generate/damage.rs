@@ -1,0 +1,297 @@
+//! Calls damaged so that a chosen condition holds (01, Turned down, by number).
+
+use super::{call, room};
+use crate::block::BLOCK;
+use crate::call::{Call, Operation};
+use crate::circuit::Gate;
+use crate::random::Random;
+
+/// A call of the operation with every condition of `numbers` met at once. They are brought about in
+/// falling number, so that a later one does not undo the condition that must be given; of a number
+/// named twice, the second damage may undo the first.
+pub fn damaged_call(random: &mut Random, operation: Operation, numbers: &[u8]) -> Call {
+    for number in numbers {
+        let has = operation.refusals().contains(number);
+        assert!(has, "{operation:?} has no argument for refusal {number}");
+    }
+    let mut falling = numbers.to_vec();
+    falling.sort_unstable_by(|a, b| b.cmp(a));
+    loop {
+        let mut call = call(random, operation);
+        let met = |&number: &u8| damage(random, &mut call, number);
+        if falling.iter().all(met) {
+            return call;
+        }
+    }
+}
+
+/// Damages one argument of the call so that condition `number` holds. False where it cannot: the
+/// operation has no such argument, there is no row record to spoil, or earlier damage is in the
+/// way.
+pub fn damage(random: &mut Random, call: &mut Call, number: u8) -> bool {
+    if !call.operation.refusals().contains(&number) {
+        return false;
+    }
+    match number {
+        1 => cut(random, &mut call.circuit, 8),
+        2 => spoil(random, call.circuit.get_mut(..2)),
+        3 => spoil_sizes(random, call),
+        4 => relength(random, &mut call.circuit, 8),
+        5 => spoil_gate_mark(random, call),
+        6 | 7 => spoil_gate(random, call, number),
+        8 => relength(random, &mut call.seed, 0),
+        9 => relength(random, &mut call.values, 0),
+        10 => spoil_value(random, call),
+        11 => spoil_token_list(random, call),
+        12 => cut(random, &mut call.material, 9),
+        13 => spoil(random, call.material.get_mut(..2)),
+        14 => spoil_scheme(random, call),
+        15 => spoil(random, call.material.get_mut(3..9)),
+        16 => spoil_material_length(random, call),
+        17 => spoil_row_record(random, call),
+        18 => spoil_last_record(random, call),
+        19 => shorten_buffer(random, call),
+        20 => spoil_wire(random, call),
+        _ => false,
+    }
+}
+
+/// Changes one byte, if there are bytes.
+fn spoil(random: &mut Random, bytes: Option<&mut [u8]>) -> bool {
+    let Some(bytes) = bytes.filter(|bytes| !bytes.is_empty()) else {
+        return false;
+    };
+    let index = random.below(bytes.len());
+    bytes[index] ^= random.between(1, 255) as u8;
+    true
+}
+
+/// Cuts bytes down to under `limit`.
+fn cut(random: &mut Random, bytes: &mut Vec<u8>, limit: usize) -> bool {
+    bytes.truncate(random.below(limit));
+    true
+}
+
+/// Gives bytes another length, not under `least`: shorter, or longer by a few zeros.
+fn relength(random: &mut Random, bytes: &mut Vec<u8>, least: usize) -> bool {
+    let length = bytes.len();
+    if length > least && random.chance(50) {
+        bytes.truncate(random.between(least, length - 1));
+    } else {
+        bytes.resize(length.max(least) + random.between(1, 40), 0);
+    }
+    true
+}
+
+/// Sizes that break a limit, from sizes within them.
+fn bad_sizes(random: &mut Random, n: u16, m: u16, q: usize) -> (u16, u16, usize) {
+    match random.below(6) {
+        0 => (random.below(2) as u16, m, q),
+        1 => (random.between(4097, 65_535) as u16, m, q),
+        2 => (n, 0, q),
+        3 => (n, random.between((q + 1).min(65_535), 65_535) as u16, q),
+        4 => (n, m, 0),
+        _ => (n, m, random.between(65_536 - usize::from(n.max(1)), 65_535)),
+    }
+}
+
+/// Condition 3 in the list form; too many records for 16 bits are among it.
+fn spoil_list_sizes(random: &mut Random, call: &mut Call) -> bool {
+    let Some(&gate) = call.gates.first() else {
+        return false;
+    };
+    let q = if random.chance(20) {
+        random.between(65_536, 65_560)
+    } else {
+        let q = call.gates.len();
+        let bad = bad_sizes(random, call.n, call.m, q);
+        (call.n, call.m) = (bad.0, bad.1);
+        bad.2
+    };
+    call.gates.resize(q, gate);
+    true
+}
+
+/// Condition 3, in the header or in the list form.
+fn spoil_sizes(random: &mut Random, call: &mut Call) -> bool {
+    if call.operation == Operation::EvaluateGates {
+        return spoil_list_sizes(random, call);
+    }
+    let Some(&mut [n0, n1, m0, m1, q0, q1]) = call.circuit.get_mut(2..8) else {
+        return false;
+    };
+    let [n, m, q] = [[n0, n1], [m0, m1], [q0, q1]].map(u16::from_be_bytes);
+    let (n, m, q) = bad_sizes(random, n, m, usize::from(q));
+    let sizes = [n, m, q as u16].map(u16::to_be_bytes);
+    call.circuit[2..8].copy_from_slice(&sizes.concat());
+    true
+}
+
+/// The whole gate records of the circuit's bytes.
+fn gate_records(call: &mut Call) -> Vec<&mut [u8]> {
+    let records = call.circuit.get_mut(8..).unwrap_or_default();
+    records.chunks_exact_mut(7).collect()
+}
+
+fn spoil_gate_mark(random: &mut Random, call: &mut Call) -> bool {
+    let mut records = gate_records(call);
+    let index = random.below(records.len());
+    let record = records.get_mut(index);
+    spoil(random, record.map(|record| &mut record[..2]))
+}
+
+/// Conditions 6 and 7, of a gate in the bytes or in the list.
+fn spoil_gate(random: &mut Random, call: &mut Call, number: u8) -> bool {
+    if call.operation == Operation::EvaluateGates {
+        let index = random.below(call.gates.len());
+        let wire = usize::from(call.n) + 1 + index;
+        let found = call.gates.get_mut(index);
+        return found
+            .map(|gate| *gate = bad_gate(random, *gate, wire, number))
+            .is_some();
+    }
+    let Some(&[high, low]) = call.circuit.get(2..4) else {
+        return false;
+    };
+    let mut records = gate_records(call);
+    let index = random.below(records.len());
+    let wire = usize::from(u16::from_be_bytes([high, low])) + 1 + index;
+    let Some([_, _, a0, a1, b0, b1, code]) = records.get_mut(index) else {
+        return false;
+    };
+    let [a, b] = [[*a0, *a1], [*b0, *b1]].map(u16::from_be_bytes);
+    let gate = bad_gate(random, Gate { a, b, code: *code }, wire, number);
+    [*a0, *a1] = gate.a.to_be_bytes();
+    [*b0, *b1] = gate.b.to_be_bytes();
+    *code = gate.code;
+    true
+}
+
+/// The gate with operands out of their limit (6) or a refused code (7).
+fn bad_gate(random: &mut Random, gate: Gate, wire: usize, number: u8) -> Gate {
+    let Gate { a, b, .. } = gate;
+    if number == 7 {
+        let mut bad = gate;
+        let most = random.one_of(&[15, 255]);
+        while bad.kind().is_some() {
+            bad.code = random.between(0, most) as u8;
+        }
+        return bad;
+    }
+    let (a, b) = match random.below(5) {
+        0 => (0, b),
+        1 => (b, b),
+        2 => (b, a),
+        3 => (a, wire as u16),
+        _ => (a, random.between(wire.min(65_535), 65_535) as u16),
+    };
+    Gate { a, b, ..gate }
+}
+
+fn spoil_value(random: &mut Random, call: &mut Call) -> bool {
+    let bad = random.between(2, 255) as u8;
+    if call.operation == Operation::Pick {
+        call.bit = bad;
+        return true;
+    }
+    let index = random.below(call.values.len());
+    call.values
+        .get_mut(index)
+        .map(|value| *value = bad)
+        .is_some()
+}
+
+fn spoil_token_list(random: &mut Random, call: &mut Call) -> bool {
+    match (call.operation, random.below(3)) {
+        (Operation::Evaluate | Operation::EvaluateGates | Operation::Decode, _) => {
+            relength(random, &mut call.tokens, 0)
+        }
+        (Operation::Pick, 0) => {
+            // The same length on both sides, and no multiple of 16.
+            let length = call.zero.len() / BLOCK * BLOCK + random.between(1, BLOCK - 1);
+            call.zero.resize(length, 0);
+            call.one.resize(length, 0);
+            true
+        }
+        (_, 1) => relength(random, &mut call.zero, 0),
+        _ => relength(random, &mut call.one, 0),
+    }
+}
+
+fn spoil_scheme(random: &mut Random, call: &mut Call) -> bool {
+    let bad = random.one_of(&[0, 4, 5, 128, 255]);
+    if call.operation == Operation::Garble {
+        call.scheme = bad;
+        return true;
+    }
+    let byte = call.material.get_mut(2);
+    byte.map(|byte| *byte = bad).is_some()
+}
+
+/// Another length than the circuit and the scheme ask for: by the bytes, or by the scheme.
+fn spoil_material_length(random: &mut Random, call: &mut Call) -> bool {
+    let circuit = call.read_circuit();
+    let charged = circuit.is_ok_and(|circuit| circuit.sizes().p > 0);
+    match call.material.get_mut(2) {
+        Some(scheme @ 1..=3) if charged && random.chance(25) => {
+            *scheme = *scheme % 3 + 1;
+            true
+        }
+        _ => relength(random, &mut call.material, 9),
+    }
+}
+
+/// Changes the mark or the wire number of one row record.
+fn spoil_row_record(random: &mut Random, call: &mut Call) -> bool {
+    let Ok(circuit) = call.read_circuit() else {
+        return false;
+    };
+    let p = circuit.sizes().p;
+    let Some(rest) = call.material.len().checked_sub(11 + circuit.sizes().m) else {
+        return false;
+    };
+    if p == 0 {
+        return false;
+    }
+    let start = 9 + rest / p * random.below(p);
+    spoil(random, call.material.get_mut(start..start + 4))
+}
+
+/// Changes the last record's mark, or sets one of its bytes over 1.
+fn spoil_last_record(random: &mut Random, call: &mut Call) -> bool {
+    let Ok(circuit) = call.read_circuit() else {
+        return false;
+    };
+    let m = circuit.sizes().m;
+    let Some(start) = call.material.len().checked_sub(2 + m) else {
+        return false;
+    };
+    let last = &mut call.material[start..];
+    if random.chance(50) {
+        return spoil(random, last.get_mut(..2));
+    }
+    last[2 + random.below(m)] = random.one_of(&[2, 3, 128, 255]);
+    true
+}
+
+/// Makes one output buffer too short.
+fn shorten_buffer(random: &mut Random, call: &mut Call) -> bool {
+    let Some(needed) = room(call).filter(|needed| !needed.is_empty()) else {
+        return false;
+    };
+    let index = random.below(needed.len());
+    let short = [0, needed[index] - 1, random.below(needed[index])];
+    call.lens[index] = random.one_of(&short);
+    true
+}
+
+/// A wire of 0 or past the lists; now and then the lists are empty, and every wire is past them.
+fn spoil_wire(random: &mut Random, call: &mut Call) -> bool {
+    if random.chance(20) {
+        (call.zero, call.one) = (Vec::new(), Vec::new());
+    }
+    let past = call.zero.len() / BLOCK + 1;
+    let far = random.between(past, 65_535);
+    call.wire = random.one_of(&[0, past, far]) as u16;
+    true
+}

@@ -1,0 +1,21 @@
+//! A second implementation of document 01 ("01" below), written from the paper alone, and what the
+//! tests need around it: calls as values, a reader of stored cases and a generator of new ones.
+
+#![forbid(unsafe_code)]
+#![warn(missing_docs)]
+
+pub mod aes;
+pub mod block;
+pub mod call;
+pub mod cases;
+pub mod circuit;
+pub mod generate;
+pub mod hex;
+pub mod material;
+pub mod operations;
+pub mod pi;
+pub mod program;
+pub mod random;
+pub mod refused;
+pub mod scheme;
+pub mod token;

@@ -1,0 +1,260 @@
+//! The three schemes: garbling one gate and evaluating one gate (01, Tokens; Schemes 1 to 3).
+
+use crate::block::{Block, Colour, BLOCK};
+use crate::circuit::{Gate, Kind, Truth, TRUTH_PAIRS};
+use crate::pi::Pi;
+use crate::token::{token, Seed};
+
+/// A scheme.
+#[derive(Clone, Copy, Debug, PartialEq, Eq)]
+pub enum Scheme {
+    /// Scheme 1.
+    GaX,
+    /// Scheme 2.
+    GaXR,
+    /// Scheme 3.
+    HalfGates,
+}
+
+impl Scheme {
+    /// The scheme of a scheme byte, if there is one.
+    pub fn from_byte(byte: u8) -> Option<Scheme> {
+        match byte {
+            1 => Some(Scheme::GaX),
+            2 => Some(Scheme::GaXR),
+            3 => Some(Scheme::HalfGates),
+            _ => None,
+        }
+    }
+
+    /// The scheme byte.
+    pub fn byte(self) -> u8 {
+        match self {
+            Scheme::GaX => 1,
+            Scheme::GaXR => 2,
+            Scheme::HalfGates => 3,
+        }
+    }
+
+    /// r, the rows of a charged gate (01, Material).
+    pub fn rows(self) -> usize {
+        match self {
+            Scheme::GaX => 4,
+            Scheme::GaXR => 3,
+            Scheme::HalfGates => 2,
+        }
+    }
+}
+
+/// The row of a pair of colours c and d: 2c+d.
+fn row_of(c: Colour, d: Colour) -> usize {
+    2 * usize::from(c.0) + usize::from(d.0)
+}
+
+/// E(A,B,T,Z) = π(K) ⊕ K ⊕ Z, K = 2A ⊕ 4B ⊕ T (01, Scheme 1).
+fn encrypt(pi: &mut Pi, a: Block, b: Block, tweak: usize, z: Block) -> Block {
+    let k = a.double() ^ b.double_twice() ^ Block::number(tweak);
+    pi.hash(k) ^ z
+}
+
+/// H(x,i) = π(2x ⊕ i) ⊕ 2x ⊕ i (01, Scheme 3).
+fn half_gate_hash(pi: &mut Pi, x: Block, i: usize) -> Block {
+    pi.hash(x.double() ^ Block::number(i))
+}
+
+/// α, β and γ of a charged code (01, Scheme 3).
+#[derive(Clone, Copy, Debug, PartialEq, Eq)]
+pub struct HalfGateBits {
+    /// α = 1-u.
+    pub alpha: bool,
+    /// β = 1-v.
+    pub beta: bool,
+    /// γ = 1 if the pair's own value is 0.
+    pub gamma: bool,
+}
+
+/// α, β, γ from the pair (u,v) that has a value of its own; nothing where no single pair has one.
+pub fn half_gate_bits(gate: Gate) -> Option<HalfGateBits> {
+    let values = TRUTH_PAIRS.map(|(u, v)| gate.value(u, v));
+    for (&(u, v), own) in TRUTH_PAIRS.iter().zip(values) {
+        if values.iter().filter(|&&value| value == own).count() == 1 {
+            return Some(HalfGateBits {
+                alpha: !u.0,
+                beta: !v.0,
+                gamma: !own.0,
+            });
+        }
+    }
+    None
+}
+
+/// A pair of operand tokens and the gate's value for it.
+#[derive(Clone, Copy)]
+struct Pair {
+    a: Block,
+    b: Block,
+    value: Truth,
+}
+
+/// What garbling a gate makes: the zero token X, and the rows to be stored.
+#[derive(Clone, Debug, PartialEq, Eq)]
+pub struct GarbledGate {
+    /// X of the gate.
+    pub zero: Block,
+    /// The rows in rising number, G before E; none for a free gate.
+    pub rows: Vec<Block>,
+}
+
+/// Garbles gates by one scheme from one seed.
+#[derive(Clone, Debug)]
+pub struct Garbler {
+    scheme: Scheme,
+    seed: Seed,
+    offset: Block,
+    pi: Pi,
+}
+
+impl Garbler {
+    /// A garbler that has made no call of π yet.
+    pub fn new(scheme: Scheme, seed: &[u8; BLOCK]) -> Garbler {
+        let seed = Seed::new(seed);
+        Garbler {
+            scheme,
+            offset: seed.offset(),
+            seed,
+            pi: Pi::default(),
+        }
+    }
+
+    /// The zero token of an input wire.
+    pub fn input(&self, wire: usize) -> Block {
+        self.seed.zero_token(wire)
+    }
+
+    /// The token of a wire for a truth value, from its zero token.
+    pub fn token(&self, zero: Block, value: Truth) -> Block {
+        token(zero, self.offset, value)
+    }
+
+    /// The calls of π made so far.
+    pub fn calls(&self) -> u64 {
+        self.pi.calls()
+    }
+
+    /// Garbles the gate on wire g, whose operands have the zero tokens xa and xb.
+    pub fn gate(&mut self, g: usize, gate: Gate, xa: Block, xb: Block) -> GarbledGate {
+        if gate.kind() == Some(Kind::Free) {
+            // Xa ⊕ Xb, and ⊕ R more for code 9.
+            let zero = xa ^ xb ^ self.offset.times(gate.code == 9);
+            let rows = Vec::new();
+            return GarbledGate { zero, rows };
+        }
+        match self.scheme {
+            Scheme::GaX => self.gax(g, self.pairs(gate, xa, xb)),
+            Scheme::GaXR => self.gaxr(g, self.pairs(gate, xa, xb)),
+            Scheme::HalfGates => self.half_gates(g, gate, xa, xb),
+        }
+    }
+
+    /// The four pairs of operand tokens, each at the row 2c+d of its colours c and d.
+    fn pairs(&self, gate: Gate, xa: Block, xb: Block) -> [Pair; 4] {
+        let mut by_row = [Pair {
+            a: xa,
+            b: xb,
+            value: Truth(false),
+        }; 4];
+        for (u, v) in TRUTH_PAIRS {
+            let (a, b) = (self.token(xa, u), self.token(xb, v));
+            let value = gate.value(u, v);
+            by_row[row_of(a.colour(), b.colour())] = Pair { a, b, value };
+        }
+        by_row
+    }
+
+    /// The row of that number: E(A,B,4g+row, the gate's token for its value).
+    fn row(&mut self, g: usize, row: usize, pair: Pair, zero: Block) -> Block {
+        let z = self.token(zero, pair.value);
+        encrypt(&mut self.pi, pair.a, pair.b, 4 * g + row, z)
+    }
+
+    /// Scheme 1: X from the seed, four rows.
+    fn gax(&mut self, g: usize, pairs: [Pair; 4]) -> GarbledGate {
+        let zero = self.seed.zero_token(g);
+        let rows = (0..4).map(|row| self.row(g, row, pairs[row], zero));
+        let rows = rows.collect();
+        GarbledGate { zero, rows }
+    }
+
+    /// Scheme 2: X from the pair of colours 0,0, then rows 1 to 3.
+    fn gaxr(&mut self, g: usize, pairs: [Pair; 4]) -> GarbledGate {
+        let first = pairs[0];
+        let made = encrypt(&mut self.pi, first.a, first.b, 4 * g, Block::ZERO);
+        // `made` is the token for the pair's value, so X is that ⊕ R exactly if the value is 1.
+        let zero = self.token(made, first.value);
+        let rows = (1..4).map(|row| self.row(g, row, pairs[row], zero));
+        let rows = rows.collect();
+        GarbledGate { zero, rows }
+    }
+
+    /// Scheme 3: rows G and E.
+    fn half_gates(&mut self, g: usize, gate: Gate, xa: Block, xb: Block) -> GarbledGate {
+        let bits = half_gate_bits(gate).expect("a charged code has a pair of its own");
+        let r = self.offset;
+        let (a, b) = (xa ^ r.times(bits.alpha), xb ^ r.times(bits.beta));
+        let (Colour(s), Colour(t)) = (a.colour(), b.colour());
+        let (j, k) = (2 * g, 2 * g + 1);
+        let pi = &mut self.pi;
+        let hash_a = half_gate_hash(pi, a, j);
+        let hash_b = half_gate_hash(pi, b, k);
+        let row_g = hash_a ^ half_gate_hash(pi, a ^ r, j) ^ r.times(t);
+        let row_e = hash_b ^ half_gate_hash(pi, b ^ r, k) ^ a;
+        let halves = hash_a ^ row_g.times(s) ^ hash_b ^ (row_e ^ a).times(t);
+        GarbledGate {
+            zero: halves ^ r.times(bits.gamma),
+            rows: vec![row_g, row_e],
+        }
+    }
+}
+
+/// Evaluates gates by one scheme.
+#[derive(Clone, Debug)]
+pub struct Evaluator {
+    scheme: Scheme,
+    pi: Pi,
+}
+
+impl Evaluator {
+    /// An evaluator that has made no call of π yet.
+    pub fn new(scheme: Scheme) -> Evaluator {
+        let pi = Pi::default();
+        Evaluator { scheme, pi }
+    }
+
+    /// The calls of π made so far.
+    pub fn calls(&self) -> u64 {
+        self.pi.calls()
+    }
+
+    /// The token of a free gate.
+    pub fn free(&self, a: Block, b: Block) -> Block {
+        a ^ b
+    }
+
+    /// The token of the charged gate on wire g, from the operand tokens held and its stored rows.
+    pub fn charged(&mut self, g: usize, rows: &[Block], a: Block, b: Block) -> Block {
+        let (c, d) = (a.colour(), b.colour());
+        let row = row_of(c, d);
+        match self.scheme {
+            Scheme::GaX => encrypt(&mut self.pi, a, b, 4 * g + row, rows[row]),
+            Scheme::GaXR => {
+                let stored = if row == 0 { Block::ZERO } else { rows[row - 1] };
+                encrypt(&mut self.pi, a, b, 4 * g + row, stored)
+            }
+            Scheme::HalfGates => {
+                let hash_a = half_gate_hash(&mut self.pi, a, 2 * g);
+                let hash_b = half_gate_hash(&mut self.pi, b, 2 * g + 1);
+                hash_a ^ rows[0].times(c.0) ^ hash_b ^ (rows[1] ^ a).times(d.0)
+            }
+        }
+    }
+}

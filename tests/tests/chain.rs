@@ -1,0 +1,145 @@
+//! The chain garble, encode, evaluate, decode of demand 3, on one circuit (01, Operations).
+
+use std::collections::BTreeSet;
+
+use second::block::{Block, BLOCK};
+use second::circuit::{Circuit, Sizes};
+use second::generate;
+use second::material;
+use second::operations::{decode, encode, evaluate, evaluate_gates, garble, plain};
+use second::random::Random;
+use second::scheme::Scheme;
+use second::token::Seed;
+
+const SCHEMES: [Scheme; 3] = [Scheme::GaX, Scheme::GaXR, Scheme::HalfGates];
+
+/// What the four calls of the chain leave.
+struct Chain {
+    zeros: Vec<u8>,
+    held: Vec<u8>,
+    decoded: Vec<u8>,
+}
+
+/// Runs the chain in buffers of exactly the bytes named, and checks what the calls return.
+fn run(bytes: &[u8], scheme: Scheme, seed: &[u8], values: &[u8]) -> Chain {
+    let circuit = Circuit::read(bytes).expect("an accepted circuit");
+    let sizes = circuit.sizes();
+    let Sizes { n, m, p, .. } = sizes;
+    let length = material::length(sizes, scheme);
+    let (mut material, mut zeros) = (vec![0; length], vec![0; BLOCK * sizes.wires()]);
+    let (mut ones, mut tokens) = (vec![0; BLOCK * n], vec![0; BLOCK * n]);
+    let (mut held, mut decoded) = (vec![0; BLOCK * sizes.wires()], vec![0; m]);
+    let byte = scheme.byte();
+    let garbled = garble(bytes, seed, byte, &mut material, &mut zeros, &mut ones);
+    let returned = garbled.map(|garbled| (garbled.length, garbled.calls));
+    assert_eq!(returned, Ok((length as u64, 4 * p as u64)));
+    assert_eq!(
+        encode(bytes, values, &zeros[..BLOCK * n], &ones, &mut tokens),
+        Ok(())
+    );
+    let calls = if scheme == Scheme::HalfGates {
+        2 * p
+    } else {
+        p
+    };
+    let evaluated = evaluate(bytes, &tokens, &material, &mut held);
+    assert_eq!(evaluated, Ok(calls as u64));
+    let outputs = &held[held.len() - BLOCK * m..];
+    assert_eq!(decode(bytes, outputs, &material, &mut decoded), Ok(()));
+    check_list_form(&circuit, &tokens, &material, &held);
+    Chain {
+        zeros,
+        held,
+        decoded,
+    }
+}
+
+/// The list form gets the answer of the bytes.
+fn check_list_form(circuit: &Circuit, tokens: &[u8], material: &[u8], held: &[u8]) {
+    let Sizes { n, m, .. } = circuit.sizes();
+    let gates: Vec<_> = circuit.gates().map(|(_, gate)| gate).collect();
+    let mut by_list = vec![0; held.len()];
+    let (n, m) = (n as u16, m as u16);
+    let answer = evaluate_gates(n, m, &gates, tokens, material, &mut by_list);
+    assert!(answer.is_ok() && by_list == held, "list form: {answer:?}");
+}
+
+/// Demand 3: the distance on every wire, and the decoded bits.
+fn check_chain(bytes: &[u8], scheme: Scheme, seed: &[u8; BLOCK], values: &[u8], name: &str) {
+    let Sizes { m, n, q, .. } = Circuit::read(bytes).expect("an accepted circuit").sizes();
+    let mut carried = vec![0; n + q];
+    assert_eq!(plain(bytes, values, &mut carried), Ok(()));
+    let chain = run(bytes, scheme, seed, values);
+    let offset = Seed::new(seed).offset();
+    assert!(offset.colour().0 && offset != Block::ZERO);
+    let tokens = Block::list(&chain.zeros)
+        .into_iter()
+        .zip(Block::list(&chain.held));
+    for ((zero, held), (index, &value)) in tokens.zip(carried.iter().enumerate()) {
+        let expected = if value == 1 { offset } else { Block::ZERO };
+        let wire = index + 1;
+        assert_eq!(zero ^ held, expected, "{name}, {scheme:?}, wire {wire}");
+    }
+    assert_eq!(chain.decoded, carried[n + q - m..], "{name}, {scheme:?}");
+}
+
+fn seed_block(random: &mut Random) -> [u8; BLOCK] {
+    Block::list(&generate::seed(random))[0].0
+}
+
+#[test]
+fn every_code_on_every_pair_of_values() {
+    let mut random = Random::new(11);
+    for code in [1, 2, 4, 6, 7, 8, 9, 11, 13, 14] {
+        let mut bytes = generate::circuit(&mut random, 2, 1, 0);
+        bytes[14] = code;
+        for (round, scheme) in (0..16).flat_map(|round| SCHEMES.map(|scheme| (round, scheme))) {
+            let values = [round / 2 % 2, round % 2];
+            let name = format!("code {code}, values {values:?}");
+            check_chain(&bytes, scheme, &seed_block(&mut random), &values, &name);
+        }
+    }
+}
+
+#[test]
+fn random_circuits() {
+    let mut random = Random::new(12);
+    let mut codes = BTreeSet::new();
+    for round in 0..400 {
+        let bytes = generate::small_circuit(&mut random);
+        let circuit = Circuit::read(&bytes).expect("an accepted circuit");
+        codes.extend(circuit.gates().map(|(_, gate)| gate.code));
+        let values = generate::values(&mut random, circuit.sizes().n);
+        let seed = seed_block(&mut random);
+        for scheme in SCHEMES {
+            check_chain(&bytes, scheme, &seed, &values, &format!("round {round}"));
+        }
+    }
+    let all = [1, 2, 4, 6, 7, 8, 9, 11, 13, 14];
+    assert_eq!(codes.into_iter().collect::<Vec<u8>>(), all);
+}
+
+#[test]
+fn largest_circuits() {
+    let mut random = Random::new(13);
+    for (n, q, charged) in [(4096, 61_439, 50), (2, 65_533, 100), (2, 65_533, 0)] {
+        let bytes = generate::circuit(&mut random, n, q, charged);
+        let values = generate::values(&mut random, usize::from(n));
+        let seed = seed_block(&mut random);
+        for scheme in SCHEMES {
+            let name = format!("n {n}, q {q}, charged {charged}");
+            check_chain(&bytes, scheme, &seed, &values, &name);
+        }
+    }
+}
+
+#[test]
+fn seed_that_is_the_key_of_pi() {
+    let mut random = Random::new(14);
+    let bytes = generate::circuit(&mut random, 5, 30, 70);
+    let values = generate::values(&mut random, 5);
+    let seed = std::array::from_fn(|i| i as u8);
+    for scheme in SCHEMES {
+        check_chain(&bytes, scheme, &seed, &values, "the key of π as seed");
+    }
+}

@@ -1,0 +1,131 @@
+//! The built program of the repository against module `program` (01, Table of examples).
+
+use std::io::{Read, Write};
+use std::path::PathBuf;
+use std::process::{Child, Command, ExitStatus, Stdio};
+use std::thread;
+use std::time::{Duration, Instant};
+
+use second::cases::{self, Asked};
+use second::generate;
+use second::program::{self, LIMIT};
+use second::random::Random;
+
+/// The time that one run may take.
+const TIME: Duration = Duration::from_secs(10);
+
+/// More output than any right answer has is not read.
+const MOST_OUTPUT: u64 = 4096;
+
+const P11: [u8; 15] = [0x43, 0x48, 0, 2, 0, 1, 0, 1, 0x43, 0x47, 0, 1, 0, 2, 0x08];
+
+fn built_program() -> PathBuf {
+    let path = PathBuf::from(env!("CARGO_MANIFEST_DIR")).join("../target/bin/sizes");
+    let built = path.is_file();
+    assert!(
+        built,
+        "target/bin/sizes is not built: build the repository's program before its tests"
+    );
+    path
+}
+
+/// Waits for the end of the child; kills it after the time it may take.
+fn wait(child: &mut Child, name: &str) -> ExitStatus {
+    let start = Instant::now();
+    loop {
+        if let Some(status) = child.try_wait().expect("a child to wait for") {
+            return status;
+        }
+        if start.elapsed() > TIME {
+            child.kill().expect("a child to kill");
+            child.wait().expect("a killed child");
+            panic!("{name}: the program ran for more than {TIME:?}");
+        }
+        thread::sleep(Duration::from_micros(300));
+    }
+}
+
+/// Runs the program on `input` and gives its standard output.
+fn run(input: &[u8], name: &str) -> Vec<u8> {
+    let mut child = Command::new(built_program())
+        .stdin(Stdio::piped())
+        .stdout(Stdio::piped())
+        .spawn()
+        .expect("a program that can be started");
+    let mut stdin = child.stdin.take().expect("standard input");
+    let stdout = child.stdout.take().expect("standard output");
+    let input = input.to_vec();
+    // A program that has read enough may close its input early: a failed write is no fault.
+    thread::spawn(move || stdin.write_all(&input).is_ok());
+    let reader = thread::spawn(move || {
+        let mut output = Vec::new();
+        let read = stdout.take(MOST_OUTPUT).read_to_end(&mut output);
+        read.map(|_| output)
+    });
+    let status = wait(&mut child, name);
+    let output = reader.join().expect("the reader of standard output");
+    assert!(status.success(), "{name}: {status}");
+    output.expect("readable standard output")
+}
+
+fn compare(input: &[u8], expected: &str, name: &str) {
+    let output = run(input, name);
+    let shown = String::from_utf8_lossy(&output);
+    assert_eq!(shown, expected, "{name}");
+}
+
+fn compare_with_module(input: &[u8], name: &str) {
+    compare(input, &program::output(input), name);
+}
+
+#[test]
+fn stored_cases() {
+    let cases = cases::read(include_str!("../data/base.jsonl")).expect("readable cases");
+    let mut count = 0;
+    for case in &cases {
+        if let Asked::Program { input, output } = &case.asked {
+            compare(input, output, &format!("case {}", case.id));
+            count += 1;
+        }
+    }
+    assert_eq!(count, 31);
+}
+
+#[test]
+fn examples_of_the_table() {
+    compare(&P11, "2 1 1 1\n80 64 48\n", "P11");
+    let mut p12 = P11;
+    p12[14] = 0;
+    compare(&p12, "refused 7 3\n", "P12");
+    compare(&[], "refused 1 0\n", "empty input");
+}
+
+#[test]
+fn around_the_longest_input() {
+    compare(&[0; LIMIT], "refused 2 0\n", "65,536 bytes");
+    compare(&[0; LIMIT + 1], "too long\n", "65,537 bytes");
+    compare(&[0; 8 * LIMIT], "too long\n", "524,288 bytes");
+    let mut random = Random::new(31);
+    let mut circuit = generate::circuit(&mut random, 4, 9361, 50);
+    assert_eq!(circuit.len(), LIMIT - 1);
+    compare_with_module(&circuit, "a circuit of 65,535 bytes");
+    circuit.push(0);
+    compare(&circuit, "refused 4 65536\n", "that circuit and a byte");
+    circuit.push(0);
+    compare(&circuit, "too long\n", "that circuit and two bytes");
+    let accepted = generate::circuit(&mut random, 4, 9362, 50);
+    compare(
+        &accepted,
+        "too long\n",
+        "an accepted circuit that is too long",
+    );
+}
+
+#[test]
+fn random_inputs() {
+    let mut random = Random::new(32);
+    for round in 0..400 {
+        let input = generate::program_input(&mut random);
+        compare_with_module(&input, &format!("random input {round}: {input:02x?}"));
+    }
+}

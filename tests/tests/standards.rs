@@ -1,0 +1,57 @@
+//! AES against FIPS 197 and doubling against the subkeys of CMAC (RFC 4493).
+
+use second::aes::{s_box, Key};
+use second::block::Block;
+use second::hex;
+
+fn block(text: &str) -> Block {
+    Block::list(&hex::bytes(text).expect("hexadecimal"))[0]
+}
+
+const KEY: &str = "2b7e1516 28aed2a6 abf71588 09cf4f3c";
+
+#[test]
+fn key_expansion_of_appendix_a_1() {
+    let words = "2b7e1516 28aed2a6 abf71588 09cf4f3c a0fafe17 88542cb1 23a33939 2a6c7605
+                 f2c295f2 7a96b943 5935807a 7359f67f 3d80477d 4716fe3e 1e237e44 6d7a883b
+                 ef44a541 a8525b7f b671253b db0bad00 d4d1c6f8 7c839d87 caf2b8bc 11f915bc
+                 6d88a37a 110b3efd dbf98641 ca0093fd 4e54f70e 5f5fc9f3 84a64fb2 4ea6dc4f
+                 ead27321 b58dbad2 312bf560 7f8d292f ac7766f3 19fadc21 28d12941 575c006e
+                 d014f9a8 c9ee2589 e13f0cc8 b6630ca6";
+    let expanded = Key::expand(&block(KEY).0);
+    assert_eq!(Some(expanded.round_keys().concat()), hex::bytes(words));
+}
+
+#[test]
+fn cipher_example_of_appendix_b() {
+    let key = Key::expand(&block(KEY).0);
+    let plain = block("3243f6a8 885a308d 313198a2 e0370734");
+    let cipher = block("3925841d 02dc09fb dc118597 196a0b32");
+    assert_eq!(key.encrypt(plain), cipher);
+}
+
+#[test]
+fn example_vector_of_appendix_c_1() {
+    let key = Key::expand(&block("00010203 04050607 08090a0b 0c0d0e0f").0);
+    let plain = block("00112233 44556677 8899aabb ccddeeff");
+    let cipher = block("69c4e0d8 6a7b0430 d8cdb780 70b4c55a");
+    assert_eq!(key.encrypt(plain), cipher);
+}
+
+#[test]
+fn s_box_is_a_permutation_with_the_standard_s_example() {
+    // FIPS 197, section 5.1.1: the byte 53 becomes ED.
+    assert_eq!(s_box(0x53), 0xED);
+    let mut entries: Vec<u8> = (0..=255).map(s_box).collect();
+    entries.sort_unstable();
+    assert_eq!(entries, (0..=255).collect::<Vec<u8>>());
+}
+
+#[test]
+fn doubling_gives_the_cmac_subkeys() {
+    let l = Key::expand(&block(KEY).0).encrypt(Block::ZERO);
+    assert_eq!(l, block("7df76b0c 1ab899b3 3e42f047 b91b546f"));
+    assert_eq!(l.double(), block("fbeed618 35713366 7c85e08f 7236a8de"));
+    let four = block("f7ddac30 6ae266cc f90bc11e e46d513b");
+    assert_eq!(l.double_twice(), four);
+}
