@@ -1,0 +1,34 @@
+-- The rounds of the cipher, one a turn. Assumes nothing.
+use mathlib.Core.Path.{_≡_, sym, ap, _∙_}
+use mathlib.Core.List.{List}
+use Prim.Native.Nat.{ℕ, suc, _+_, _-_, _<_, _≤_}
+use native.Mathlib.Omega.{arith}
+use Rattle.model.specs.Aes.{Block, subBytes, shiftRows, addRoundKey, aesRound, rounds, cipher}
+
+-- what holds of the state s before round r: it is made from any block b that the first AddRoundKey takes to s₀
+pub record Through (w : List ℕ) (s₀ : Block) (r : ℕ) (s : Block) : Type 0 where
+  pub past : 0 < r
+  pub within : r ≤ 10
+  pub state : (b : Block) → s₀ ≡ addRoundKey w 0 b → s ≡ rounds w (r - 1) b
+
+module _ {w : List ℕ} {s₀ : Block} where
+  pub rounds-start : Through w s₀ 1 s₀
+  unfolding rounds
+  rounds-start = record { past = omega arith; within = omega arith; state = λ b e. e }
+
+  pub rounds-turn : {r : ℕ} {s s′ : Block} → Through w s₀ r s → s′ ≡ aesRound w r s → r < 10 → Through w s₀ (r + 1) s′
+  unfolding rounds
+  rounds-turn {r} {s} {s′} inv e h =
+      let p : suc (r - 1) ≡ r = omega (arith, inv .past) in
+      let q : r + 1 - 1 ≡ suc (r - 1) = omega (arith, inv .past) in
+      record {
+        past = omega arith;
+        within = omega arith;
+        state = λ b k. rw q (e ∙ ap (λ (n : ℕ). aesRound w n s) (sym p) ∙ ap (aesRound w (suc (r - 1))) (inv .state b k));
+      }
+
+  pub rounds-end : {r : ℕ} {s z : Block} → Through w s₀ r s → 10 ≤ r → z ≡ addRoundKey w 10 (shiftRows (subBytes s)) → (b : Block) → s₀ ≡ addRoundKey w 0 b → z ≡ cipher w b
+  unfolding cipher
+  rounds-end {r} {s} {z} inv h e b k =
+      let p : r - 1 ≡ 9 = omega (arith, inv .within) in
+      e ∙ ap (λ (x : Block). addRoundKey w 10 (shiftRows (subBytes x))) (inv .state b k ∙ ap (λ (n : ℕ). rounds w n b) p)
