@@ -6,7 +6,7 @@ use mathlib.Core.List.{List, map}
 use lib.ListN.{length, getD, take}
 use Rattle.model.specs.Circuit.{Circuit, circuitOf, inputs, gates, wire, plainValues}
 use Rattle.model.specs.Aes.{Block, block}
-use Rattle.model.specs.Tokens.{Garbling, distance, offset}
+use Rattle.model.specs.Tokens.{Garbling, garblingOf, distance, offset}
 use Rattle.model.specs.Garbling.{zeroTokens, inputOnes}
 use Rattle.model.specs.Material.{joinBlocks, material}
 use Rattle.model.specs.Evaluation.{encodeBytes, evaluateBytes, decodeBytes, tokenAt, outputTokens}
@@ -24,7 +24,7 @@ pub record Allowed (c seed : List ℕ) (scheme : ℕ) (values : List ℕ) : Type
 module _ (c seed : List ℕ) (scheme : ℕ) (values : List ℕ) where
   -- "The circuit is garbled by that scheme from that seed"
   abbrev pub chained : Garbling
-  chained = record { circuit = circuitOf c; seed = seed; scheme = scheme }
+  chained = garblingOf c seed scheme
 
   unfoldable pub chainMaterial : List ℕ
   chainMaterial = material chained

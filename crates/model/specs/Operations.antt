@@ -1,16 +1,22 @@
--- Document 01, "Operations": check and plain. Each answer and each buffer at exit, for every argument.
-use Prim.Native.Nat.{ℕ, _+_}
+-- Document 01, "Operations": check, plain, garble, encode and pick. Each answer and each buffer at exit, for every argument.
+use Prim.Native.Nat.{ℕ, _+_, _*_}
 use mathlib.Core.Path.{_≡_}
-use mathlib.Core.List.{List}
-use mathlib.Core.Bool.{not}
+use mathlib.Core.List.{List, [], _∷_}
+use mathlib.Core.Bool.{not, cond}
 use lib.ListN.{length}
 use lib.Dec.{eqb}
 use Rattle.model.specs.declared.Sizes.{Sizes}
 use Rattle.model.specs.declared.Checked.{Checked}
 use Rattle.model.specs.declared.Ran.{Ran}
+use Rattle.model.specs.declared.Garbled.{Garbled}
+use Rattle.model.specs.declared.Gate.{Gate}
 use Rattle.model.specs.Bytes.{over}
-use Rattle.model.specs.Circuit.{Circuit, charges, circuitOf, inputs, outputs, gates, plainValues}
-use Rattle.model.specs.Refusals.{Verdict, fine, refused, refuse, _then_, verdictOf, circuitVerdict, bitsVerdict, roomVerdict}
+use Rattle.model.specs.Circuit.{Circuit, kindOf, charge, charges, circuitOf, inputs, outputs, gates, plainValues}
+use Rattle.model.specs.Tokens.{Garbling, garblingOf}
+use Rattle.model.specs.Garbling.{schemeOf, zeroTokens, inputOnes}
+use Rattle.model.specs.Material.{materialLength, joinBlocks, material}
+use Rattle.model.specs.Evaluation.{encodeBytes, tokenAt}
+use Rattle.model.specs.Refusals.{Verdict, fine, refused, refuse, _then_, verdictOf, circuitVerdict, seedVerdict, bitsVerdict, tokensVerdict, schemeVerdict, roomVerdict, pickVerdict}
 
 -- what an operation answers: a refusal, or its results
 pub data Answer (A : Type 0) : Type 0 where
@@ -57,3 +63,64 @@ plainVerdict c v room =
 pub record PlainIs (c v o : List ℕ) (r : Verdict) (x : List ℕ) : Type 0 where
   pub answered : r ≡ plainVerdict c v (length o)
   pub left : x ≡ written (plainVerdict c v (length o)) (plainValues (circuitOf c) v) o
+
+-- ---- "Garble (circuit, seed, scheme as a byte): material; zero tokens of all wires, 16(n+q) bytes; one tokens of the inputs, 16n bytes"
+
+-- 1 to 7, 8, 14, and 19 for the three buffers in turn, of the lengths km, kz and ko
+unfoldable pub garbleVerdict : List ℕ → List ℕ → ℕ → ℕ → ℕ → ℕ → Verdict
+garbleVerdict c seed scheme km kz ko =
+    circuitVerdict c
+    then seedVerdict seed
+    then schemeVerdict scheme
+    then roomVerdict (materialLength scheme (outputs c) (charges (circuitOf c .gates))) km
+    then roomVerdict (16 * (inputs c + gates c)) kz
+    then roomVerdict (16 * inputs c) ko
+
+-- calls of π: k for each charged gate, summed over the gates
+unfoldable pub calls : ℕ → List Gate → ℕ
+calls k [] = 0
+calls k (g ∷ gs) = charge (kindOf (g .code)) * k + calls k gs
+
+pub data Made : Type 0 where
+  made : (length calls : ℕ) → Made
+
+abbrev pub garbledOf : Garbled → Answer Made
+garbledOf (Garbled.Done l k) = yes (made l k)
+garbledOf (Garbled.Refused f) = no (verdictOf f)
+
+-- "Returns the material's length and the calls of π made"
+unfoldable pub garbleMade : List ℕ → ℕ → Made
+garbleMade c scheme =
+    made (materialLength scheme (outputs c) (charges (circuitOf c .gates))) (calls (schemeOf scheme .garbleCalls) (circuitOf c .gates))
+
+-- garble's answer r, and its three buffers: m, z, o at entry and m′, z′, o′ at exit
+pub record GarbleIs (c seed : List ℕ) (scheme : ℕ) (m z o : List ℕ) (r : Answer Made) (m′ z′ o′ : List ℕ) : Type 0 where
+  pub answered : r ≡ answer (garbleVerdict c seed scheme (length m) (length z) (length o)) (garbleMade c scheme)
+  pub material-left : m′ ≡ written (garbleVerdict c seed scheme (length m) (length z) (length o)) (material (garblingOf c seed scheme)) m
+  pub zeros-left : z′ ≡ written (garbleVerdict c seed scheme (length m) (length z) (length o)) (joinBlocks (zeroTokens (garblingOf c seed scheme))) z
+  pub ones-left : o′ ≡ written (garbleVerdict c seed scheme (length m) (length z) (length o)) (joinBlocks (inputOnes (garblingOf c seed scheme))) o
+
+-- ---- "Encode (circuit, values, the inputs' zero and one lists): 16n bytes"
+
+-- 1 to 7, 9, 10, 11 for the two lists in turn, 19
+unfoldable pub encodeVerdict : List ℕ → List ℕ → List ℕ → List ℕ → ℕ → Verdict
+encodeVerdict c v zs os room =
+    circuitVerdict c
+    then refuse (not (eqb (length v) (inputs c))) 9 (length v)
+    then bitsVerdict v
+    then tokensVerdict (inputs c) zs
+    then tokensVerdict (inputs c) os
+    then roomVerdict (16 * inputs c) room
+
+pub record EncodeIs (c v zs os o : List ℕ) (r : Verdict) (x : List ℕ) : Type 0 where
+  pub answered : r ≡ encodeVerdict c v zs os (length o)
+  pub left : x ≡ written (encodeVerdict c v zs os (length o)) (encodeBytes (circuitOf c) v zs os) o
+
+-- ---- "Pick .. hands back the 16 bytes of one wire (16 bits, from 1) for one bit (a byte)"; "Refused, the part is empty"
+
+abbrev pub partOf : Verdict → List ℕ → List ℕ
+partOf fine part = part
+partOf (refused i x) part = []
+
+unfoldable pub pickPart : List ℕ → List ℕ → ℕ → ℕ → List ℕ
+pickPart zs os w bit = partOf (pickVerdict zs os w bit) (tokenAt (cond (eqb bit 0) zs os) w)

@@ -1,9 +1,9 @@
--- Document 01, "Turned down, by number": refusals 1 to 7, 9, 10 and 19.
-use Prim.Native.Nat.{ℕ, zero, suc, _+_, _*_}
+-- Document 01, "Turned down, by number": refusals 1 to 11, 14, 19 and 20.
+use Prim.Native.Nat.{ℕ, zero, suc, _+_, _*_, _%_}
 use mathlib.Core.List.{List}
-use mathlib.Core.Bool.{Bool, true, false, not}
+use mathlib.Core.Bool.{Bool, true, false, not, _&&_}
 use lib.ListN.{length, getD}
-use lib.Dec.{ltb, eqb}
+use lib.Dec.{ltb, leb, eqb}
 use Rattle.model.specs.declared.Gate.{Gate}
 use Rattle.model.specs.declared.Refusal.{Refusal}
 use Rattle.model.specs.declared.Refusal.the-variants.{CircuitShort, CircuitMark, Limits, CircuitLength, GateMark, Operands, Code, SeedLength, ValuesLength, Value, TokensLength, MaterialShort, MaterialMark, Scheme, MaterialSizes, MaterialLength, RowRecord, LastRecord, Room, PickWire}
@@ -117,6 +117,11 @@ gatesVerdict s n k = firstOf (recordVerdict s n) k
 unfoldable pub circuitVerdict : List ℕ → Verdict
 circuitVerdict s = headVerdict s then gatesVerdict s (inputs s) (gates s)
 
+-- ---- 8: "The seed is not 16 bytes (its length)."
+
+unfoldable pub seedVerdict : List ℕ → Verdict
+seedVerdict seed = refuse (not (eqb (length seed) 16)) 8 (length seed)
+
 -- ---- 9 and 10: the value list, for n inputs
 
 -- 10 at index i
@@ -127,7 +132,25 @@ valueVerdict v i = refuse (ltb 1 (getD v i 0)) 10 i
 abbrev pub bitsVerdict : List ℕ → Verdict
 bitsVerdict v = firstOf (valueVerdict v) (length v)
 
+-- ---- 11: "A token list handed in has the wrong length": k tokens of 16 bytes are due
+
+unfoldable pub tokensVerdict : ℕ → List ℕ → Verdict
+tokensVerdict k ts = refuse (not (eqb (length ts) (16 * k))) 11 (length ts)
+
+-- ---- 14: "The scheme is not 1, 2 or 3 (the scheme)."
+
+unfoldable pub schemeVerdict : ℕ → Verdict
+schemeVerdict scheme = refuse (not (leb 1 scheme && leb scheme 3)) 14 scheme
+
 -- ---- 19: "An output buffer is too short (bytes needed"
 
 unfoldable pub roomVerdict : ℕ → ℕ → Verdict
 roomVerdict needed room = refuse (ltb room needed) 19 needed
+
+-- ---- pick's: 10 for its bit, 11 where "the two lengths differ or are no multiple of 16", 20 where its wire "is 0 or past the lists"
+
+unfoldable pub pickVerdict : List ℕ → List ℕ → ℕ → ℕ → Verdict
+pickVerdict zs os w bit =
+    refuse (ltb 1 bit) 10 0
+    then refuse (not (eqb (length zs) (length os) && eqb (length zs % 16) 0)) 11 (length zs)
+    then refuse (not (leb 1 w && leb (16 * w) (length zs))) 20 w

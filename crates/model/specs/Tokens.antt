@@ -3,7 +3,7 @@ use Prim.Native.Nat.{ℕ, _+_, _*_, _/_, _%_}
 use mathlib.Core.List.{List}
 use lib.ListN.{getD, set}
 use Rattle.model.specs.Bytes.{tabulate}
-use Rattle.model.specs.Circuit.{Circuit}
+use Rattle.model.specs.Circuit.{Circuit, circuitOf}
 use Rattle.model.specs.Aes.{Block, _⊕_, times, block, aes}
 
 -- What a garbling is made from: the circuit, the seed, and the scheme by its byte.
@@ -11,6 +11,10 @@ pub record Garbling : Type 0 where
   pub circuit : Circuit
   pub seed : Block
   pub scheme : ℕ
+
+-- the garbling of a circuit's bytes
+abbrev pub garblingOf : List ℕ → List ℕ → ℕ → Garbling
+garblingOf c seed scheme = record { circuit = circuitOf c; seed = seed; scheme = scheme }
 
 -- "the lowest bit of its last byte"
 unfoldable pub colour : Block → ℕ

@@ -69,3 +69,9 @@ pub enum Ran {
     Done,
     Refused(Refusal),
 }
+
+// The answer of garble: the material's length and the calls of π, or the refusal.
+pub enum Garbled {
+    Done { length: usize, calls: usize },
+    Refused(Refusal),
+}

@@ -1,0 +1,2 @@
+-- Laws of the functions.
+pub mod PickLaws

@@ -1,0 +1,89 @@
+-- Pick: a law for each return, and what the answer of its check tells. Assumes nothing.
+use Prim.Native.Nat.{ℕ, _+_, _*_, _-_, _%_, _≤_, _<_}
+use native.Mathlib.Omega.{arith}
+use mathlib.Core.Path.{_≡_, sym}
+use mathlib.Core.List.{List, []}
+use mathlib.Core.Bool.{Bool, cond, not, _&&_}
+use borrow.Author.Tests.{lt-ltb, le-ltb, le-leb, lt-leb, eq-eqb, ne-eqb, leb-true, eqb-true, not-false}
+use lib.ListN.{length, take, drop}
+use lib.Dec.{leb, eqb}
+use Rattle.model.specs.declared.Ran.{Ran}
+use Rattle.model.specs.declared.Refusal.{Refusal}
+use Rattle.model.specs.Evaluation.{tokenAt}
+use Rattle.model.specs.Refusals.{Verdict, fine, refused, refuse, _then_, verdictOf, pickVerdict}
+use Rattle.model.specs.Operations.{ranOf, pickPart}
+use Rattle.model.proofs.Verdicts.{then-fine, refuse-fine, and-both}
+
+-- ---- pick_check
+module _ (z o : List ℕ) (w b : ℕ) where
+  pub pick-bit : 1 < b → refused 10 0 ≡ pickVerdict z o w b
+  unfolding pickVerdict _then_ refuse
+  pick-bit h = simp (lt-ltb _ _ h)
+
+  module _ (h : b ≤ 1) where
+    pub pick-lengths : (length z ≡ length o → ⊥) → refused 11 (length z) ≡ pickVerdict z o w b
+    unfolding pickVerdict _then_ refuse
+    pick-lengths i = simp (le-ltb _ _ h, ne-eqb _ _ i)
+
+    module _ (i : length z ≡ length o) where
+      pub pick-multiple : (length z % 16 ≡ 0 → ⊥) → refused 11 (length z) ≡ pickVerdict z o w b
+      unfolding pickVerdict _then_ refuse
+      pick-multiple j = simp (le-ltb _ _ h, eq-eqb _ _ i, ne-eqb _ _ j)
+
+      module _ (j : length z % 16 ≡ 0) where
+        pub pick-zero : w < 1 → refused 20 w ≡ pickVerdict z o w b
+        unfolding pickVerdict _then_ refuse
+        pick-zero k = simp (le-ltb _ _ h, eq-eqb _ _ i, eq-eqb _ _ j, lt-leb _ _ k)
+
+        pub pick-past : 1 ≤ w → length z < 16 * w → refused 20 w ≡ pickVerdict z o w b
+        unfolding pickVerdict _then_ refuse
+        pick-past k l = simp (le-ltb _ _ h, eq-eqb _ _ i, eq-eqb _ _ j, le-leb _ _ k, lt-leb _ _ l)
+
+        pub pick-fine : 1 ≤ w → 16 * w ≤ length z → fine ≡ pickVerdict z o w b
+        unfolding pickVerdict _then_ refuse
+        pick-fine k l = simp (le-ltb _ _ h, eq-eqb _ _ i, eq-eqb _ _ j, le-leb _ _ k, le-leb _ _ l)
+
+pub ruleset check-cases = (pick-bit, pick-lengths, pick-multiple, pick-zero, pick-past, pick-fine)
+
+-- ---- pick: r is the answer of its check
+module _ (z o : List ℕ) (w b : ℕ) (r : Ran) (is-r : ranOf r ≡ pickVerdict z o w b) where
+  module _ (e : r ≡ Ran.Done) where
+    is-fine : pickVerdict z o w b ≡ fine
+    is-fine = sym (rw e at is-r)
+
+    -- the lengths, and the wire
+    told : (refuse (not (eqb (length z) (length o) && eqb (length z % 16) 0)) 11 (length z) ≡ fine) × (refuse (not (leb 1 w && leb (16 * w) (length z))) 20 w ≡ fine)
+    unfolding pickVerdict
+    told = let a = then-fine _ _ is-fine in let d = then-fine _ _ (a .0) in (d .1, a .1)
+
+    same : length z ≡ length o
+    same = eqb-true _ _ (and-both _ (eqb (length z % 16) 0) (not-false _ (refuse-fine _ _ _ (told .0))) .0)
+
+    pub pick-from : 1 ≤ w
+    pick-from = leb-true _ _ (and-both _ (leb (16 * w) (length z)) (not-false _ (refuse-fine _ _ _ (told .1))) .0)
+
+    inside : 16 * w ≤ length z
+    inside = leb-true _ _ (and-both (leb 1 w) _ (not-false _ (refuse-fine _ _ _ (told .1))) .1)
+
+    pub pick-end-zeros : 16 * (w - 1) + 16 ≤ length z
+    pick-end-zeros = omega (arith, inside, pick-from)
+
+    pub pick-end-ones : 16 * (w - 1) + 16 ≤ length o
+    pick-end-ones = omega (arith, inside, pick-from, same)
+
+    sixteen : (16 * (w - 1) + 16) - 16 * (w - 1) ≡ 16
+    sixteen = omega arith
+
+    pub picked-zero : b ≡ 0 → take ((16 * (w - 1) + 16) - 16 * (w - 1)) (drop (16 * (w - 1)) z) ≡ pickPart z o w b
+    unfolding pickPart tokenAt
+    picked-zero h = simp (is-fine, eq-eqb _ _ h, sixteen)
+
+    pub picked-one : (b ≡ 0 → ⊥) → take ((16 * (w - 1) + 16) - 16 * (w - 1)) (drop (16 * (w - 1)) o) ≡ pickPart z o w b
+    unfolding pickPart tokenAt
+    picked-one h = simp (is-fine, ne-eqb _ _ h, sixteen)
+
+  pub picked-none : (f : Refusal) → r ≡ Ran.Refused f → [] ≡ pickPart z o w b
+  unfolding pickPart
+  picked-none f e = let g : verdictOf f ≡ pickVerdict z o w b = rw e at is-r in simp (← g)
+
+pub ruleset pick-cases = (pick-from, pick-end-zeros, pick-end-ones, picked-zero, picked-one, picked-none)

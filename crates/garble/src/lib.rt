@@ -1,0 +1,46 @@
+// The garbler's side (01, Operations): garble, encode and pick.
+ghost use mathlib.Core.Path.{_≡_};
+ghost use Rattle.model.specs.Refusals.{pickVerdict};
+ghost use Rattle.model.specs.Operations.{ranOf, pickPart};
+use model::Ran;
+use model::Refusal;
+use model::Wire;
+
+// The refusals of pick, in order: 10, 11, 20.
+pub fn pick_check(zeros: &[u8], ones: &[u8], wire: u16, bit: u8) -> Ran
+    ensures { λ r. ⌜ ranOf r ≡ pickVerdict (now (zeros .entry)) (now (ones .entry)) wire bit ⌝ }
+{
+    let len = zeros.len();
+    let w = wire as usize;
+    if 1 < bit {
+        return Ran::Refused(Refusal::Value(0));
+    }
+    if len != ones.len() {
+        return Ran::Refused(Refusal::TokensLength(len));
+    }
+    if len % 16 != 0 {
+        return Ran::Refused(Refusal::TokensLength(len));
+    }
+    if w < 1 {
+        return Ran::Refused(Refusal::PickWire(Wire(wire)));
+    }
+    if len < 16 * w {
+        return Ran::Refused(Refusal::PickWire(Wire(wire)));
+    }
+    Ran::Done
+}
+
+// The token of a wire for a bit: a part of the one list or the other, or an empty part where `pick_check` refuses.
+pub fn pick<'a>(zeros: &'a [u8], ones: &'a [u8], wire: u16, bit: u8) -> &'a [u8]
+    ensures { λ r. ⌜ now r ≡ pickPart (now (zeros .entry)) (now (ones .entry)) wire bit ⌝ }
+{
+    match pick_check(zeros, ones, wire, bit) {
+        Ran::Refused(_) => &zeros[..0],
+        Ran::Done => {
+            let w = wire as usize;
+            let at = 16 * (w - 1);
+            let end = at + 16;
+            if bit == 0 { &zeros[at..end] } else { &ones[at..end] }
+        }
+    }
+}
