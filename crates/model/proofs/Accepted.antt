@@ -1,0 +1,132 @@
+-- An accepted circuit: its sizes and its gates keep their limits, and its outputs are wires of it. Assumes nothing.
+use Prim.Native.Nat.{ℕ, zero, suc, _+_, _*_, _-_, _≤_, _<_}
+use native.Mathlib.Omega.{arith}
+use mathlib.Core.Path.{_≡_}
+use mathlib.Core.Bool.{true, false}
+use mathlib.Core.List.{List, [], _∷_}
+use borrow.Author.Tests.{ltb-true, leb-true, eqb-true, not-false}
+use lib.ListN.{length}
+use Rattle.model.specs.declared.Gate.{Gate}
+use Rattle.model.specs.Bytes.{from}
+use Rattle.model.specs.Circuit as C
+use Rattle.model.specs.Circuit.{Circuit, Kind, kindOf, inputs, outputs, gates, gateAt, gateWire, sizesHold, operandsHold, lastWires, circuitOf}
+use Rattle.model.specs.Refusals.{fine, isRefused, headVerdict, gateVerdict, recordVerdict, circuitVerdict}
+use Rattle.model.proofs.Lists.{tabulate-length}
+use Rattle.model.proofs.Verdicts.{then-fine, refuse-fine, and-both, first-each}
+use Rattle.model.proofs.Codes.{Used, used-charged, used-free}
+
+-- ---- the header
+
+pub record SizesHold (n m q : ℕ) : Type 0 where
+  pub n-low : 2 ≤ n
+  pub n-high : n ≤ 4096
+  pub m-low : 1 ≤ m
+  pub m-high : m ≤ q
+  pub sum : n + q ≤ 65535
+
+sizes-held : (n m q : ℕ) → sizesHold n m q ≡ true → SizesHold n m q
+unfolding sizesHold
+sizes-held n m q e =
+    let a = and-both _ _ e in
+    let b = and-both _ _ (a .0) in
+    let c = and-both _ _ (b .0) in
+    let d = and-both _ _ (c .0) in
+    let f = and-both _ _ (d .0) in
+    record {
+      n-low = leb-true _ _ (f .0);
+      n-high = leb-true _ _ (f .1);
+      m-low = leb-true _ _ (d .1);
+      m-high = leb-true _ _ (c .1);
+      sum = leb-true _ _ (a .1);
+    }
+
+pub record HeaderHolds (s : List ℕ) : Type 0 where
+  pub sizes : SizesHold (inputs s) (outputs s) (gates s)
+  pub whole : length s ≡ 8 + 7 * gates s
+
+pub header-holds : (s : List ℕ) → headVerdict s ≡ fine → HeaderHolds s
+unfolding headVerdict
+header-holds s e =
+    let a = then-fine _ _ e in
+    let b = then-fine _ _ (a .0) in
+    record {
+      sizes = sizes-held (inputs s) (outputs s) (gates s) (not-false _ (refuse-fine _ _ _ (b .1)));
+      whole = eqb-true _ _ (not-false _ (refuse-fine _ _ _ (a .1)));
+    }
+
+pub accepted-header : (s : List ℕ) → circuitVerdict s ≡ fine → HeaderHolds s
+unfolding circuitVerdict
+accepted-header s e = header-holds s (then-fine _ _ e .0)
+
+-- ---- the gates
+
+-- a gate of wire number own takes two wires before it, in rising order, by a code in use
+pub record GateHolds (own : ℕ) (g : Gate) : Type 0 where
+  pub a-low : 1 ≤ g .a
+  pub order : g .a < g .b
+  pub b-high : g .b < own
+  pub used : Used (kindOf (g .code))
+
+not-refused : (k : Kind) → isRefused k ≡ false → Used k
+not-refused (C.charged u v x) e = used-charged
+not-refused (C.free p q c) e = used-free
+not-refused C.refused e = absurd (let z : _≡_ {A = ℕ} 0 1 = cc in omega arith)
+
+pub gate-holds : (own : ℕ) (g : Gate) → gateVerdict own g ≡ fine → GateHolds own g
+unfolding gateVerdict operandsHold
+gate-holds own g e =
+    let v = then-fine _ _ e in
+    let a = and-both _ _ (not-false _ (refuse-fine _ _ _ (v .0))) in
+    let b = and-both _ _ (a .0) in
+    record {
+      a-low = leb-true _ _ (b .0);
+      order = ltb-true _ _ (b .1);
+      b-high = ltb-true _ _ (a .1);
+      used = not-refused _ (refuse-fine _ _ _ (v .1));
+    }
+
+pub accepted-gate : (s : List ℕ) (k : ℕ) → circuitVerdict s ≡ fine → k < gates s → GateHolds (gateWire (inputs s) k) (gateAt s k)
+unfolding circuitVerdict recordVerdict
+accepted-gate s k e h =
+    let r = first-each (recordVerdict s (inputs s)) (gates s) k (then-fine _ _ e .1) h in
+    gate-holds (gateWire (inputs s) k) (gateAt s k) (then-fine _ _ r .1)
+
+-- ---- the circuit
+
+-- so do the gates of a list, the first of wire number w
+pub data GatesHold : ℕ → List Gate → Type 0 where
+  no-gate : {w : ℕ} → GatesHold w []
+  gate : {w : ℕ} {g : Gate} {gs : List Gate} → GateHolds w g → GatesHold (suc w) gs → GatesHold w (g ∷ gs)
+
+-- each is one of the wires 1 to n
+pub data Within (n : ℕ) : List ℕ → Type 0 where
+  none : Within n []
+  more : {w : ℕ} {ws : List ℕ} → 1 ≤ w → w ≤ n → Within n ws → Within n (w ∷ ws)
+
+pub record CircuitHolds (c : Circuit) : Type 0 where
+  pub gates-hold : GatesHold (suc (c .n)) (c .gates)
+  pub outputs-within : Within (c .n + length (c .gates)) (c .outputs)
+
+gates-from : (s : List ℕ) (n i k : ℕ) → ((j : ℕ) → i ≤ j → j < i + k → GateHolds (gateWire n j) (gateAt s j))
+    → GatesHold (gateWire n i) (from i k (gateAt s))
+gates-from s n i zero h = no-gate
+gates-from s n i (suc k) h =
+    let next : gateWire n (suc i) ≡ suc (gateWire n i) = omega arith in
+    gate (h i (omega arith) (omega arith)) (rw next at (gates-from s n (suc i) k (λ j l u. h j (omega arith) (omega arith))))
+
+within-from : (n first i k : ℕ) → 1 ≤ first → first + i + k ≤ suc n → Within n (from i k (λ j. first + j))
+within-from n first i zero h l = none
+within-from n first i (suc k) h l = more {w = first + i} (omega arith) (omega arith) (within-from n first (suc i) k h (omega arith))
+
+pub accepted-circuit : (s : List ℕ) → circuitVerdict s ≡ fine → CircuitHolds (circuitOf s)
+unfolding circuitOf lastWires
+accepted-circuit s e =
+    let z = accepted-header s e .sizes in
+    let n = inputs s in
+    let q = gates s in
+    let m = outputs s in
+    let first : gateWire n 0 ≡ suc n = omega arith in
+    record {
+      gates-hold = rw first at (gates-from s n 0 q (λ j l u. accepted-gate s j e (omega arith)));
+      outputs-within = rw (tabulate-length q (gateAt s)) (within-from (n + q) (n + q - m + 1) 0 m (omega arith) (omega arith));
+    }

@@ -1,0 +1,129 @@
+-- Demand 3 holds: on every wire of every accepted circuit, from seed to output bit, in the bytes that the operations hand on. Assumes nothing.
+use Prim.Native.Nat.{ℕ, _+_, _*_, _-_, _≤_}
+use native.Mathlib.Omega.{arith}
+use mathlib.Core.Path.{_≡_, refl, sym, ap₂, _∙_}
+use mathlib.Core.List.{List, [], _∷_, _++_, map, append-assoc, append-nil}
+use lib.ListN.{length, take}
+use lib.Seq.{take-at}
+use Rattle.model.specs.declared.Gate.{Gate}
+use Rattle.model.specs.Circuit.{inputs, gates, gateAt, circuitOf, wire, wires, plainValues}
+use Rattle.model.specs.Aes.{Block, block}
+use Rattle.model.specs.Tokens.{Garbling, offset, inputZeros}
+use Rattle.model.specs.Garbling.{zeroStep, zeroTokens, inputOnes}
+use Rattle.model.specs.Material.{joinBlocks, material}
+use Rattle.model.specs.Evaluation.{cut, encode, evaluate, decode, encodeBytes, evaluateBytes, decodeBytes, tokenAt, outputTokens}
+use Rattle.model.specs.Demand3.{Allowed, chained, chainMaterial, chainZeros, chainOnes, chainInputs, chainTokens, chainBits, carries, distanceAt, Demand3}
+use Rattle.model.proofs.Lists.{tabulate-length}
+use Rattle.model.proofs.Tokens.{offset-is}
+use Rattle.model.proofs.Blocks as B
+use Rattle.model.proofs.Blocks.{Blocks, blocks-wide, join-length, join-append, cut-join, token-at-wire}
+use Rattle.model.proofs.Accepted.{Within, none, more, CircuitHolds, accepted-circuit}
+use Rattle.model.proofs.Lengths.{input-zeros-blocks, input-ones-blocks, zero-tokens-blocks}
+use Rattle.model.proofs.Holds.{Holds, holds-distances, AllHold, hold-at, tokens-blocks}
+use Rattle.model.proofs.Chain.{decode-holds, material-ends, inputs-hold, wires-hold, plain-length}
+
+-- ---- the tokens of some wires, from bytes
+
+module _ {k : ℕ} {xs : List Block} (r : Blocks k xs) where
+  tokens-at : {ws : List ℕ} → Within k ws → map (tokenAt (joinBlocks xs)) ws ≡ map (λ w. wire (block 0) xs w) ws
+  tokens-at none = refl
+  tokens-at (more h₁ h₂ t) = ap₂ _∷_ (token-at-wire r _ h₁ h₂) (tokens-at t)
+
+  wires-blocks : {ws : List ℕ} → Within k ws → Blocks (length ws) (map (λ w. wire (block 0) xs w) ws)
+  wires-blocks none = B.none
+  wires-blocks (more {w = w} h₁ h₂ t) = B.more (blocks-wide r (w - 1) (omega arith)) (wires-blocks t)
+
+-- ---- the first zero tokens are the inputs'
+
+wires-begin : {A : Type 0} (step : List A → Gate → A) (gs : List Gate) (ws : List A) → (t : List A) × (wires step gs ws ≡ ws ++ t)
+unfolding wires
+wires-begin step [] ws = ([], sym (append-nil ws))
+wires-begin step (g ∷ gs) ws =
+    let r = wires-begin step gs (ws ++ (step ws g ∷ [])) in
+    (step ws g ∷ r .0, r .1 ∙ append-assoc ws (step ws g ∷ []) (r .0))
+
+pub zero-tokens-begin : (γ : Garbling) → take (16 * γ .circuit .n) (joinBlocks (zeroTokens γ)) ≡ joinBlocks (inputZeros γ)
+unfolding zeroTokens
+zero-tokens-begin γ =
+    let r = wires-begin (zeroStep γ) (γ .circuit .gates) (inputZeros γ) in
+    rw (r .1, join-append) (take-at (joinBlocks (inputZeros γ)) _ (16 * γ .circuit .n) (join-length (input-zeros-blocks γ)))
+
+module _ (c seed : List ℕ) (scheme : ℕ) (values : List ℕ) (allowed : Allowed c seed scheme values) where
+  abbrev γ : Garbling
+  γ = chained c seed scheme values
+
+  many : length values ≡ circuitOf c .n
+  unfolding circuitOf
+  many = allowed .one-each
+
+  holds : CircuitHolds (circuitOf c)
+  holds = accepted-circuit c (allowed .accepted)
+
+  -- the tokens of the inputs and of all wires, as lists
+  held : List Block
+  held = encode values (inputZeros γ) (inputOnes γ)
+
+  left : List Block
+  left = evaluate (circuitOf c) held (material γ)
+
+  inputs-held : AllHold (offset γ) values (inputZeros γ) held
+  unfolding held
+  inputs-held = inputs-hold γ values many (allowed .bits)
+
+  all-held : AllHold (offset γ) (plainValues (circuitOf c) values) (zeroTokens γ) left
+  unfolding held left
+  all-held = wires-hold γ values many (allowed .bits) holds
+
+  as-many : length (plainValues (circuitOf c) values) ≡ circuitOf c .n + length (circuitOf c .gates)
+  as-many = plain-length γ values many (allowed .bits) holds
+
+  left-blocks : Blocks (circuitOf c .n + length (circuitOf c .gates)) left
+  left-blocks = rw as-many at (tokens-blocks all-held)
+
+  wires-many : circuitOf c .n + length (circuitOf c .gates) ≡ inputs c + gates c
+  unfolding circuitOf
+  wires-many = rw (tabulate-length (gates c) (gateAt c))
+
+  -- ---- what the operations hand on
+
+  -- encode gets the inputs' zero and one tokens, and evaluate what was encoded
+  inputs-are : cut (circuitOf c .n) (chainInputs c seed scheme values) ≡ held
+  unfolding chainInputs encodeBytes chainZeros chainOnes held circuitOf
+  inputs-are =
+      rw (zero-tokens-begin γ, cut-join (input-zeros-blocks γ), cut-join (input-ones-blocks γ)) (cut-join (rw many at (tokens-blocks inputs-held)))
+
+  tokens-are : chainTokens c seed scheme values ≡ joinBlocks left
+  unfolding chainTokens evaluateBytes left chainMaterial
+  tokens-are = rw inputs-are
+
+  -- a wire's token, as it was left, and its zero token
+  left-at : (w : ℕ) → 1 ≤ w → w ≤ inputs c + gates c → tokenAt (chainTokens c seed scheme values) w ≡ wire (block 0) left w
+  left-at w h l = rw tokens-are (token-at-wire left-blocks w h (rw wires-many l))
+
+  zero-at : (w : ℕ) → 1 ≤ w → w ≤ inputs c + gates c → tokenAt (chainZeros c seed scheme values) w ≡ wire (block 0) (zeroTokens γ) w
+  unfolding chainZeros
+  zero-at w h l = token-at-wire (zero-tokens-blocks γ) w h (rw wires-many l)
+
+  -- every wire holds its token
+  wire-holds : (w : ℕ) → 1 ≤ w → w ≤ inputs c + gates c
+      → Holds (offset γ) (carries c seed scheme values w) (tokenAt (chainZeros c seed scheme values) w) (tokenAt (chainTokens c seed scheme values) w)
+  unfolding carries
+  wire-holds w h l = rw (left-at w h l, zero-at w h l) (hold-at all-held (w - 1) (omega (arith, as-many, wires-many)))
+
+  bits-decoded : chainBits c seed scheme values ≡ map (carries c seed scheme values) (circuitOf c .outputs)
+  unfolding chainBits decodeBytes outputTokens decode chainMaterial carries
+  bits-decoded =
+      let within = holds .outputs-within in
+      rw (tokens-are, tokens-at left-blocks within, cut-join (wires-blocks left-blocks within), material-ends γ)
+      (decode-holds (offset-is γ) all-held {ws = circuitOf c .outputs} (rw as-many within))
+
+-- The theorem.
+pub demand-3 : (c seed : List ℕ) (scheme : ℕ) (values : List ℕ) → Allowed c seed scheme values → Demand3 c seed scheme values
+unfolding distanceAt
+demand-3 c seed scheme values allowed =
+    let R = offset-is (chained c seed scheme values) in
+    record {
+      at-zero = λ w h l. holds-distances R (wire-holds c seed scheme values allowed w h l) .zero-if-0;
+      at-one = λ w h l. holds-distances R (wire-holds c seed scheme values allowed w h l) .offset-if-1;
+      decoded = bits-decoded c seed scheme values allowed;
+    }

@@ -1,0 +1,90 @@
+-- As many tokens as wires, each of 16 bytes, and material as long as document 01 says. Assumes nothing.
+use Prim.Native.Nat.{ℕ, zero, suc, _+_, _*_, _≤_}
+use native.Mathlib.Nat.{add-zero, add-suc, suc-add}
+use native.Mathlib.Omega.{arith}
+use mathlib.Core.Path.{_≡_, refl}
+use mathlib.Core.List.{List, [], _∷_, _++_}
+use lib.ListN.{length, length-append, length-map}
+use Rattle.model.specs.declared.Gate.{Gate}
+use Rattle.model.specs.Bytes.{from}
+use Rattle.model.specs.Circuit.{Kind, charged, free, refused, kindOf, charge, charges, wires}
+use Rattle.model.specs.Aes.{Block}
+use Rattle.model.specs.Tokens.{Garbling, inputZeros, oneToken}
+use Rattle.model.specs.Scheme.{Site, Scheme}
+use Rattle.model.specs.Garbling.{schemeOf, siteOf, zeroStep, zeroTokens, inputOnes}
+use Rattle.model.specs.Material.{materialLength, header, recordOf, records, lastRecord, material}
+use Rattle.model.specs.Evaluation.{openStep, past, run}
+use Rattle.model.proofs.Xor.{⊕-length}
+use Rattle.model.proofs.Tokens.{seedBlock-length}
+use Rattle.model.proofs.Blocks.{Blocks, none, more, blocks-snoc, blocks-map, join-length}
+use Rattle.model.proofs.Sound.{Sound}
+use Rattle.model.proofs.Schemes.{scheme-sound, rows-stored}
+use Rattle.model.proofs.Gates.{recordLength, zero-at-wide, open-at-wide}
+
+-- ---- evaluation's tokens, over anyone's rows
+
+pub run-blocks : (S : Scheme) → Sound S → (gs : List Gate) (bs : List ℕ) {k : ℕ} {ts : List Block} → Blocks k ts
+    → Blocks (k + length gs) (run S gs bs ts)
+unfolding run openStep
+run-blocks S sound [] bs {k} r = rw (add-zero k) r
+run-blocks S sound (g ∷ gs) bs {k} r =
+    let grown = blocks-snoc _ r (open-at-wide S sound (kindOf (g .code)) _ bs _ _) in
+    rw (add-suc k, ← suc-add k) (run-blocks S sound gs (past S (kindOf (g .code)) bs) grown)
+
+-- ---- zero and one tokens
+
+from-blocks : (f : ℕ → Block) → ((i : ℕ) → length (f i) ≡ 16) → (i n : ℕ) → Blocks n (from i n f)
+from-blocks f h i zero = none
+from-blocks f h i (suc n) = more (h i) (from-blocks f h (suc i) n)
+
+module _ (γ : Garbling) where
+  pub input-zeros-blocks : Blocks (γ .circuit .n) (inputZeros γ)
+  unfolding inputZeros
+  input-zeros-blocks = from-blocks _ (λ i. seedBlock-length γ (i + 1)) 0 (γ .circuit .n)
+
+  pub input-ones-blocks : Blocks (γ .circuit .n) (inputOnes γ)
+  unfolding inputOnes oneToken
+  input-ones-blocks = blocks-map (oneToken γ) (λ x. ⊕-length x _) input-zeros-blocks
+
+  pub zero-step-wide : (xs : List Block) (g : Gate) → length (zeroStep γ xs g) ≡ 16
+  unfolding zeroStep siteOf
+  zero-step-wide xs g = zero-at-wide γ (kindOf (g .code)) (siteOf γ xs g) (seedBlock-length γ _)
+
+  -- those after some gates
+  pub zeros-blocks : (gs : List Gate) {k : ℕ} {xs : List Block} → Blocks k xs → Blocks (k + length gs) (wires (zeroStep γ) gs xs)
+  unfolding wires
+  zeros-blocks [] {k} r = rw (add-zero k) r
+  zeros-blocks (g ∷ gs) {k} {xs} r = rw (add-suc k, ← suc-add k) (zeros-blocks gs (blocks-snoc _ r (zero-step-wide xs g)))
+
+  -- those of all wires
+  pub zero-tokens-blocks : Blocks (γ .circuit .n + length (γ .circuit .gates)) (zeroTokens γ)
+  unfolding zeroTokens
+  zero-tokens-blocks = zeros-blocks (γ .circuit .gates) input-zeros-blocks
+
+  -- ---- the material
+
+  pub header-length : length (header γ) ≡ 9
+  unfolding header
+  header-length = refl
+
+  pub record-length : (k : Kind) (s : Site) → length (recordOf γ k s) ≡ charge k * recordLength (schemeOf (γ .scheme))
+  unfolding recordOf
+  record-length (charged u v x) s = simp (join-length (scheme-sound (γ .scheme) .rows-wide s)) (omega arith)
+  record-length (free p q c) s = omega arith
+  record-length refused s = omega arith
+
+  pub records-length : (gs : List Gate) (xs : List Block) → length (records γ gs xs) ≡ charges gs * recordLength (schemeOf (γ .scheme))
+  unfolding records charges
+  records-length [] xs = omega arith
+  records-length (g ∷ gs) xs =
+      simp (length-append, record-length, records-length gs (xs ++ (zeroStep γ xs g ∷ []))) (omega arith)
+
+  pub last-length : length (lastRecord γ) ≡ 2 + length (γ .circuit .outputs)
+  unfolding lastRecord
+  last-length = simp length-map (omega arith)
+
+  pub material-length : 1 ≤ γ .scheme → γ .scheme ≤ 3
+      → length (material γ) ≡ materialLength (γ .scheme) (length (γ .circuit .outputs)) (charges (γ .circuit .gates))
+  unfolding material materialLength
+  material-length l h =
+      rw (← rows-stored (γ .scheme) l h) (simp (length-append, header-length, records-length, last-length) (omega arith))
