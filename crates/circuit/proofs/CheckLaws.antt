@@ -1,26 +1,24 @@
--- Check: a law for each of its returns, and what is known of an accepted circuit. Assumes nothing.
+-- Check: a law for each of its returns, and how large an accepted circuit's sizes are. Assumes nothing.
 use Prim.Native.Nat.{ℕ, _+_, _*_, _≤_, _<_}
 use native.Mathlib.Omega.{arith}
-use mathlib.Core.Path.{_≡_, refl, sym, ap, _∙_}
+use mathlib.Core.Path.{_≡_, ap}
 use mathlib.Core.List.{List}
-use borrow.Author.Tests.{ltb-true, leb-true, not-false}
 use lib.ListN.{length}
-use Rattle.model.specs.declared.Gate.{Gate}
 use Rattle.model.specs.declared.Refusal.{Refusal}
 use Rattle.model.specs.declared.Sizes.{Sizes}
 use Rattle.model.specs.declared.Checked.{Checked}
 use Rattle.model.specs.Bytes.{tabulate}
-use Rattle.model.specs.Circuit.{charges, circuitOf, inputs, outputs, gates, gateAt, gateWire, operandsHold}
-use Rattle.model.specs.Refusals.{Verdict, fine, refused, _then_, verdictOf, headVerdict, gateVerdict, recordVerdict, gatesVerdict, circuitVerdict}
-use Rattle.model.specs.Operations.{Answer, no, yes, answer, sizesOf, checkedOf, checkAnswer}
+use Rattle.model.specs.Circuit.{circuitOf, inputs, outputs, gates, gateAt}
+use Rattle.model.specs.Refusals.{_then_, verdictOf, headVerdict, gatesVerdict, circuitVerdict}
+use Rattle.model.specs.Operations.{no, yes, sizesOf, checkedOf, checkAnswer}
 use Rattle.model.proofs.Lists.{tabulate-length}
+use Rattle.model.proofs.Accepted.{HeaderHolds, header-holds, accepted-header}
 use Rattle.model.proofs.Circuits.{charges-le}
-use Rattle.model.proofs.Verdicts.{yes-given, no-turned, no-then, no-other, Given, then-fine, refuse-fine, and-both, first-each}
+use Rattle.model.proofs.Verdicts.{yes-given, no-then, no-other, Given}
 use Rattle.circuit.specs.Answers.{headerOf, headerAnswer, searchOf, searchAnswer}
 use Rattle.circuit.specs.declared.header.Header.{Header}
 use Rattle.circuit.specs.declared.header.HeaderRead.{HeaderRead}
 use Rattle.circuit.specs.declared.gates.Searched.{Searched}
-use Rattle.circuit.proofs.HeaderLaws.{HeaderHolds, header-holds}
 
 module _ (s : List ℕ) (r : HeaderRead) (is-r : headerOf r ≡ headerAnswer s) where
   pub check-header : (f : Refusal) → r ≡ HeaderRead.Refused f → no (verdictOf f) ≡ checkAnswer s
@@ -63,34 +61,13 @@ module _ (s : List ℕ) (r : HeaderRead) (is-r : headerOf r ≡ headerAnswer s) 
 
 pub ruleset check-cases = (check-header, search-whole, search-sum, check-gate, check-accepted)
 
--- ---- an accepted circuit
-
-pub circuit-header : (s : List ℕ) → circuitVerdict s ≡ fine → HeaderHolds s
-unfolding circuitVerdict
-circuit-header s e = header-holds s (then-fine _ _ e .0)
-
--- the operands of gate k keep their limit
-pub record GateHolds (s : List ℕ) (k : ℕ) : Type 0 where
-  pub a-low : 1 ≤ gateAt s k .a
-  pub order : gateAt s k .a < gateAt s k .b
-  pub b-high : gateAt s k .b < gateWire (inputs s) k
-
-pub gate-holds : (s : List ℕ) (k : ℕ) → circuitVerdict s ≡ fine → k < gates s → GateHolds s k
-unfolding circuitVerdict recordVerdict gateVerdict operandsHold
-gate-holds s k e h =
-    let r = first-each (recordVerdict s (inputs s)) (gates s) k (then-fine _ _ e .1) h in
-    let g = then-fine _ _ (then-fine _ _ r .1) in
-    let a = and-both _ _ (not-false _ (refuse-fine _ _ _ (g .0))) in
-    let b = and-both _ _ (a .0) in
-    record { a-low = leb-true _ _ (b .0); order = ltb-true _ _ (b .1); b-high = ltb-true _ _ (a .1) }
-
--- an accepted circuit's sizes, as check gives them
+-- ---- an accepted circuit's sizes, as check gives them
 module _ (s : List ℕ) (r : Checked) (is-r : checkedOf r ≡ checkAnswer s) (z : Sizes) (e : r ≡ Checked.Accepted z) where
   accepted : Given (circuitVerdict s) z (sizesOf s)
   accepted = yes-given (circuitVerdict s) z (sizesOf s) (rw e at is-r)
 
   limits : HeaderHolds s
-  limits = circuit-header s (accepted .is-fine)
+  limits = accepted-header s (accepted .is-fine)
 
   pub few-outputs : z .m ≤ 65535
   unfolding sizesOf

@@ -1,16 +1,15 @@
--- The header: a law for each return of `sizes_hold` and of `read_header`, and what an accepted header tells. Assumes nothing.
+-- The header: a law for each return of `sizes_hold` and of `read_header`. Assumes nothing.
 use Prim.Native.Nat.{ℕ, _+_, _*_, _≤_, _<_}
 use native.Mathlib.Omega.{arith}
-use mathlib.Core.Path.{_≡_, refl, sym, ap, _∙_}
+use mathlib.Core.Path.{_≡_}
 use mathlib.Core.Bool.{Bool, true, false, not, _&&_}
 use mathlib.Core.List.{List}
-use borrow.Author.Tests.{lt-ltb, le-ltb, le-leb, lt-leb, eq-eqb, ne-eqb, ltb-false, leb-true, eqb-true, not-false}
+use borrow.Author.Tests.{lt-ltb, le-ltb, le-leb, lt-leb, eq-eqb, ne-eqb}
 use lib.ListN.{length, getD}
 use Rattle.model.specs.Bytes.{be16}
 use Rattle.model.specs.Circuit.{markAt, inputs, outputs, gates, sizesHold}
-use Rattle.model.specs.Refusals.{fine, refused, refuse, _then_, headVerdict}
+use Rattle.model.specs.Refusals.{refused, refuse, _then_, headVerdict}
 use Rattle.model.specs.Operations.{no, yes}
-use Rattle.model.proofs.Verdicts.{then-fine, refuse-fine, and-both}
 use Rattle.circuit.specs.Answers.{headerAnswer}
 
 -- ---- sizes_hold
@@ -78,36 +77,3 @@ module _ (s : List ℕ) where
     header-fine h k = simp (le-ltb _ _ l, eq-eqb _ _ i, eq-eqb _ _ j, ← is-n, ← is-m, ← is-q, ← is-b, h, eq-eqb _ _ k)
 
 pub ruleset header-cases = (header-short, header-mark, header-mark-2, header-limits, header-length, header-fine)
-
--- ---- what a header without a fault tells
-
-pub record SizesHold (n m q : ℕ) : Type 0 where
-  pub n-low : 2 ≤ n
-  pub n-high : n ≤ 4096
-  pub m-low : 1 ≤ m
-  pub m-high : m ≤ q
-  pub sum : n + q ≤ 65535
-
-sizes-held : (n m q : ℕ) → sizesHold n m q ≡ true → SizesHold n m q
-unfolding sizesHold
-sizes-held n m q e =
-    let a = and-both _ _ e in
-    let b = and-both _ _ (a .0) in
-    let c = and-both _ _ (b .0) in
-    let d = and-both _ _ (c .0) in
-    let f = and-both _ _ (d .0) in
-    record { n-low = leb-true _ _ (f .0); n-high = leb-true _ _ (f .1); m-low = leb-true _ _ (d .1); m-high = leb-true _ _ (c .1); sum = leb-true _ _ (a .1) }
-
-pub record HeaderHolds (s : List ℕ) : Type 0 where
-  pub sizes : SizesHold (inputs s) (outputs s) (gates s)
-  pub whole : length s ≡ 8 + 7 * gates s
-
-pub header-holds : (s : List ℕ) → headVerdict s ≡ fine → HeaderHolds s
-unfolding headVerdict
-header-holds s e =
-    let a = then-fine _ _ e in
-    let b = then-fine _ _ (a .0) in
-    record {
-      sizes = sizes-held (inputs s) (outputs s) (gates s) (not-false _ (refuse-fine _ _ _ (b .1)));
-      whole = eqb-true _ _ (not-false _ (refuse-fine _ _ _ (a .1)));
-    }

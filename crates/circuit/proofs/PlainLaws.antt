@@ -17,6 +17,7 @@ use Rattle.model.specs.Bytes.{tabulate, over}
 use Rattle.model.specs.Circuit.{inputs, gates, gateAt, circuitOf, plainValues, gateValue}
 use Rattle.model.specs.Refusals.{Verdict, fine, refused, refuse, _then_, verdictOf, circuitVerdict, valueVerdict, bitsVerdict, roomVerdict}
 use Rattle.model.specs.Operations.{Answer, no, yes, sizesOf, checkedOf, checkAnswer, plainVerdict, PlainIs}
+use Rattle.model.proofs.Accepted.{accepted-header}
 use Rattle.model.proofs.Lists.{tabulate-length}
 use Rattle.model.proofs.Buffers.{over-length, over-over}
 use Rattle.model.proofs.Circuits.{wires-length}
@@ -24,7 +25,6 @@ use Rattle.model.proofs.Verdicts.{Given, yes-given, Turned, no-turned, no-then,
 use Rattle.circuit.specs.Answers.{AllBits, bitsOf, readyOf, plainReady, PlainStart}
 use Rattle.circuit.specs.declared.values.Bits.{Bits}
 use Rattle.circuit.specs.declared.values.Ready.{Ready}
-use Rattle.circuit.proofs.CheckLaws.{circuit-header}
 
 -- ---- plain_ready: r is check's answer
 module _ (c v : List ℕ) (room : ℕ) (r : Checked) (is-r : checkedOf r ≡ checkAnswer c) where
@@ -49,7 +49,7 @@ module _ (c v : List ℕ) (room : ℕ) (r : Checked) (is-r : checkedOf r ≡ che
 
     pub ready-fits : Fits w64 (z .n + z .q)
     ready-fits =
-        let h : z .n + z .q ≤ 65535 = rw (is-n, is-q) (circuit-header c (told .is-fine) .sizes .sum) in
+        let h : z .n + z .q ≤ 65535 = rw (is-n, is-q) (accepted-header c (told .is-fine) .sizes .sum) in
         omega arith
 
     pub ready-length : (length v ≡ z .n → ⊥) → no (refused 9 (length v)) ≡ plainReady c v room

@@ -9,15 +9,14 @@ use lib.ListN.{length, getD, take, drop, set, length-set, take-append-drop}
 use lib.Seq.{length-take-le}
 use Rattle.model.specs.declared.Gate.{Gate}
 use Rattle.model.specs.Bytes.{tabulate, over}
-use Rattle.model.specs.Circuit.{value, wires, gateValue, circuitOf, plainValues, gates, gateAt, gateWire}
+use Rattle.model.specs.Circuit.{value, wires, gateValue, circuitOf, plainValues, inputs, gates, gateAt, gateWire}
 use Rattle.model.specs.Refusals.{Verdict, fine, refused, refuse, _then_, firstOf, valueVerdict, bitsVerdict}
+use Rattle.model.proofs.Accepted.{HeaderHolds, GateHolds, accepted-header, accepted-gate}
 use Rattle.model.proofs.Lists.{tabulate-snoc, tabulate-length}
 use Rattle.model.proofs.Buffers.{over-get, over-set}
 use Rattle.model.proofs.Circuits.{wires-snoc, wires-length}
 use Rattle.model.proofs.Verdicts.{first-next, first-found}
 use Rattle.circuit.specs.Answers.{AllBits, PlainStart}
-use Rattle.circuit.proofs.HeaderLaws.{HeaderHolds}
-use Rattle.circuit.proofs.CheckLaws.{GateHolds, gate-holds, circuit-header}
 
 -- ---- search_values: the first i values are bits
 pub record Checking (v : List ℕ) (i : ℕ) : Type 0 where
@@ -90,7 +89,7 @@ module _ (c o : List ℕ) (n q : ℕ) (start : PlainStart c o n q) where
       }
 
   in-circuit : HeaderHolds c
-  in-circuit = circuit-header c (start .accepted)
+  in-circuit = accepted-header c (start .accepted)
 
   -- gate k as it was read
   module _ (k : ℕ) (more : k < q) where
@@ -100,8 +99,8 @@ module _ (c o : List ℕ) (n q : ℕ) (start : PlainStart c o n q) where
     pub gate-small : k < 65536
     gate-small = omega (arith, in-circuit .sizes .sum, start .is-q)
 
-    operands : GateHolds c k
-    operands = gate-holds c k (start .accepted) (omega (arith, start .is-q))
+    operands : GateHolds (gateWire (inputs c) k) (gateAt c k)
+    operands = accepted-gate c k (start .accepted) (omega (arith, start .is-q))
 
     module _ (g : Gate) (is-g : g ≡ gateAt c k) where
       pub gate-low : 1 ≤ g .a

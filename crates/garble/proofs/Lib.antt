@@ -1,2 +1,3 @@
 -- Laws of the functions.
 pub mod PickLaws
+pub mod ReadyLaws

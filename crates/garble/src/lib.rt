@@ -2,6 +2,8 @@
 ghost use mathlib.Core.Path.{_≡_};
 ghost use Rattle.model.specs.Refusals.{pickVerdict};
 ghost use Rattle.model.specs.Operations.{ranOf, pickPart};
+pub mod ready;
+
 use model::Ran;
 use model::Refusal;
 use model::Wire;

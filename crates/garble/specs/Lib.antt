@@ -1,0 +1,2 @@
+-- What the answers of this crate's inner functions say, in the model's terms.
+pub mod Answers
