@@ -38,6 +38,10 @@ kinds =
 unfoldable pub kindOf : ℕ → Kind
 kindOf code = getD kinds code refused
 
+-- the code of gate k of a circuit, from 0; past its gates a code that is refused
+unfoldable pub codeAt : Circuit → ℕ → ℕ
+codeAt c k = getD (c .gates) k (record { a = 0; b = 0; code = 0 }) .code
+
 -- how much a gate adds to p
 abbrev pub charge : Kind → ℕ
 charge (charged u v x) = 1

@@ -1,22 +1,23 @@
--- Document 01, "Operations": check, plain, garble, encode and pick. Each answer and each buffer at exit, for every argument.
+-- Document 01, "Operations". Each answer and each buffer at exit, for every argument.
 use Prim.Native.Nat.{ℕ, _+_, _*_}
 use mathlib.Core.Path.{_≡_}
 use mathlib.Core.List.{List, [], _∷_}
 use mathlib.Core.Bool.{not, cond}
-use lib.ListN.{length}
+use lib.ListN.{length, getD}
 use lib.Dec.{eqb}
 use Rattle.model.specs.declared.Sizes.{Sizes}
 use Rattle.model.specs.declared.Checked.{Checked}
 use Rattle.model.specs.declared.Ran.{Ran}
 use Rattle.model.specs.declared.Garbled.{Garbled}
+use Rattle.model.specs.declared.Evaluated.{Evaluated}
 use Rattle.model.specs.declared.Gate.{Gate}
 use Rattle.model.specs.Bytes.{over}
 use Rattle.model.specs.Circuit.{Circuit, kindOf, charge, charges, circuitOf, inputs, outputs, gates, plainValues}
 use Rattle.model.specs.Tokens.{Garbling, garblingOf}
 use Rattle.model.specs.Garbling.{schemeOf, zeroTokens, inputOnes}
 use Rattle.model.specs.Material.{materialLength, joinBlocks, material}
-use Rattle.model.specs.Evaluation.{encodeBytes, tokenAt}
-use Rattle.model.specs.Refusals.{Verdict, fine, refused, refuse, _then_, verdictOf, circuitVerdict, seedVerdict, bitsVerdict, tokensVerdict, schemeVerdict, roomVerdict, pickVerdict}
+use Rattle.model.specs.Evaluation.{encodeBytes, evaluateBytes, decodeBytes, tokenAt}
+use Rattle.model.specs.Refusals.{Verdict, fine, refused, refuse, _then_, verdictOf, circuitVerdict, seedVerdict, bitsVerdict, tokensVerdict, schemeVerdict, materialVerdict, roomVerdict, pickVerdict}
 
 -- what an operation answers: a refusal, or its results
 pub data Answer (A : Type 0) : Type 0 where
@@ -115,6 +116,43 @@ encodeVerdict c v zs os room =
 pub record EncodeIs (c v zs os o : List ℕ) (r : Verdict) (x : List ℕ) : Type 0 where
   pub answered : r ≡ encodeVerdict c v zs os (length o)
   pub left : x ≡ written (encodeVerdict c v zs os (length o)) (encodeBytes (circuitOf c) v zs os) o
+
+-- ---- "Evaluate (circuit, input tokens, material): tokens of all wires, 16(n+q) bytes; returns the calls of π"
+
+-- 1 to 7, 11, 12 to 18, 19
+unfoldable pub evaluateVerdict : List ℕ → List ℕ → List ℕ → ℕ → Verdict
+evaluateVerdict c ts s room =
+    circuitVerdict c
+    then tokensVerdict (inputs c) ts
+    then materialVerdict (circuitOf c) s
+    then roomVerdict (16 * (inputs c + gates c)) room
+
+abbrev pub evaluatedOf : Evaluated → Answer ℕ
+evaluatedOf (Evaluated.Done k) = yes k
+evaluatedOf (Evaluated.Refused f) = no (verdictOf f)
+
+-- "p in schemes 1 and 2, 2p in scheme 3": the scheme's own calls, summed over the gates
+unfoldable pub evaluateCallsOf : List ℕ → List ℕ → ℕ
+evaluateCallsOf c s = calls (schemeOf (getD s 2 0) .evaluateCalls) (circuitOf c .gates)
+
+-- evaluate's answer r, and the buffer, o at entry and x at exit; ts are the input tokens and s the material
+pub record EvaluateIs (c ts s o : List ℕ) (r : Answer ℕ) (x : List ℕ) : Type 0 where
+  pub answered : r ≡ answer (evaluateVerdict c ts s (length o)) (evaluateCallsOf c s)
+  pub left : x ≡ written (evaluateVerdict c ts s (length o)) (evaluateBytes (circuitOf c) ts s) o
+
+-- ---- "Decode (circuit, output tokens of 16m bytes, material): m bytes"
+
+-- 1 to 7, 11, 12 to 18, 19
+unfoldable pub decodeVerdict : List ℕ → List ℕ → List ℕ → ℕ → Verdict
+decodeVerdict c ts s room =
+    circuitVerdict c
+    then tokensVerdict (outputs c) ts
+    then materialVerdict (circuitOf c) s
+    then roomVerdict (outputs c) room
+
+pub record DecodeIs (c ts s o : List ℕ) (r : Verdict) (x : List ℕ) : Type 0 where
+  pub answered : r ≡ decodeVerdict c ts s (length o)
+  pub left : x ≡ written (decodeVerdict c ts s (length o)) (decodeBytes (circuitOf c) ts s) o
 
 -- ---- "Pick .. hands back the 16 bytes of one wire (16 bits, from 1) for one bit (a byte)"; "Refused, the part is empty"
 

@@ -1,14 +1,16 @@
--- Document 01, "Turned down, by number": refusals 1 to 11, 14, 19 and 20.
+-- Document 01, "Turned down, by number".
 use Prim.Native.Nat.{ℕ, zero, suc, _+_, _*_, _%_}
 use mathlib.Core.List.{List}
 use mathlib.Core.Bool.{Bool, true, false, not, _&&_}
-use lib.ListN.{length, getD}
+use lib.ListN.{length, getD, take}
 use lib.Dec.{ltb, leb, eqb}
 use Rattle.model.specs.declared.Gate.{Gate}
 use Rattle.model.specs.declared.Refusal.{Refusal}
 use Rattle.model.specs.declared.Refusal.the-variants.{CircuitShort, CircuitMark, Limits, CircuitLength, GateMark, Operands, Code, SeedLength, ValuesLength, Value, TokensLength, MaterialShort, MaterialMark, Scheme, MaterialSizes, MaterialLength, RowRecord, LastRecord, Room, PickWire}
+use Rattle.model.specs.Bytes.{be16}
 use Rattle.model.specs.Circuit as C
-use Rattle.model.specs.Circuit.{Kind, kindOf, markAt, inputs, outputs, gates, recordAt, gateAt, sizesHold, operandsHold, gateWire}
+use Rattle.model.specs.Circuit.{Circuit, Kind, kindOf, charges, codeAt, markAt, inputs, outputs, gates, recordAt, gateAt, sizesHold, operandsHold, gateWire}
+use Rattle.model.specs.Material.{rowsStored, materialLength}
 
 -- "A refusal is its number and a place"; `fine` is none
 pub data Verdict : Type 0 where
@@ -97,6 +99,11 @@ isRefused (C.charged u v x) = false
 isRefused (C.free p q c) = false
 isRefused C.refused = true
 
+abbrev pub isCharged : Kind → Bool
+isCharged (C.charged u v x) = true
+isCharged (C.free p q c) = false
+isCharged C.refused = false
+
 -- 6 and 7 of a gate, by its own wire number
 unfoldable pub gateVerdict : ℕ → Gate → Verdict
 gateVerdict own g =
@@ -141,6 +148,39 @@ tokensVerdict k ts = refuse (not (eqb (length ts) (16 * k))) 11 (length ts)
 
 unfoldable pub schemeVerdict : ℕ → Verdict
 schemeVerdict scheme = refuse (not (leb 1 scheme && leb scheme 3)) 14 scheme
+
+-- ---- 12 to 18: the material s, for a circuit. "Material is well-formed for a circuit if none of conditions 12 to 18 holds."
+
+-- where the row record of gate k stands, or would stand: past the header and the records of the charged gates before it
+unfoldable pub rowStart : Circuit → List ℕ → ℕ → ℕ
+rowStart c s k = 9 + charges (take k (c .gates)) * (4 + 16 * rowsStored (getD s 2 0))
+
+-- 12 to 16: the header and the length
+unfoldable pub fileVerdict : Circuit → List ℕ → Verdict
+fileVerdict c s =
+    refuse (ltb (length s) 9) 12 (length s)
+    then refuse (not (markAt s 0 0x47 0x48)) 13 0
+    then schemeVerdict (getD s 2 0)
+    then refuse (not (eqb (be16 s 3) (c .n) && eqb (be16 s 5) (length (c .outputs)) && eqb (be16 s 7) (length (c .gates)))) 15 3
+    then refuse (not (eqb (length s) (materialLength (getD s 2 0) (length (c .outputs)) (charges (c .gates))))) 16 (length s)
+
+-- the record at an index has the mark 47 54 and this wire number
+unfoldable pub rowRecordAt : List ℕ → ℕ → ℕ → Bool
+rowRecordAt s at own = markAt s at 0x47 0x54 && eqb (be16 s (at + 2)) own
+
+-- 17 of gate k: "A row record has a wrong mark or wire number (the wire number due)."
+unfoldable pub rowVerdict : Circuit → List ℕ → ℕ → Verdict
+rowVerdict c s k =
+    refuse (isCharged (kindOf (codeAt c k)) && not (rowRecordAt s (rowStart c s k) (gateWire (c .n) k))) 17 (gateWire (c .n) k)
+
+-- 18: "The last record's mark is wrong or a byte of it exceeds 1 (its start)."
+unfoldable pub lastVerdict : Circuit → List ℕ → Verdict
+lastVerdict c s =
+    refuse (not (markAt s (rowStart c s (length (c .gates))) 0x47 0x44)) 18 (rowStart c s (length (c .gates)))
+    then firstOf (λ i. refuse (ltb 1 (getD s (rowStart c s (length (c .gates)) + 2 + i) 0)) 18 (rowStart c s (length (c .gates)))) (length (c .outputs))
+
+unfoldable pub materialVerdict : Circuit → List ℕ → Verdict
+materialVerdict c s = fileVerdict c s then firstOf (rowVerdict c s) (length (c .gates)) then lastVerdict c s
 
 -- ---- 19: "An output buffer is too short (bytes needed"
 

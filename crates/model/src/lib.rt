@@ -75,3 +75,9 @@ pub enum Garbled {
     Done { length: usize, calls: usize },
     Refused(Refusal),
 }
+
+// The answer of evaluate: the calls of π, or the refusal.
+pub enum Evaluated {
+    Done(usize),
+    Refused(Refusal),
+}
