@@ -86,7 +86,7 @@ record PlainHolds (c v : List ℕ) (room : ℕ) : Type 0 where
   bits : AllBits v
   roomy : inputs c + gates c ≤ room
 
-all-bits : (v : List ℕ) → bitsVerdict v ≡ fine → AllBits v
+pub all-bits : (v : List ℕ) → bitsVerdict v ≡ fine → AllBits v
 unfolding valueVerdict
 all-bits v f i = go (decLt i (length v))
   where

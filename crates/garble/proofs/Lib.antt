@@ -1,3 +1,7 @@
 -- Laws of the functions.
 pub mod PickLaws
 pub mod ReadyLaws
+pub mod BlockLaws
+pub mod InputLaws
+pub mod EncodeLaws
+pub mod EncodeIsLaws

@@ -1,12 +1,31 @@
 // The garbler's side (01, Operations): garble, encode and pick.
 ghost use mathlib.Core.Path.{_≡_};
 ghost use Rattle.model.specs.Refusals.{pickVerdict};
-ghost use Rattle.model.specs.Operations.{ranOf, pickPart};
-pub mod ready;
+ghost use Rattle.model.specs.Operations.{ranOf, EncodeIs, pickPart};
 
+use crate::inputs::encode_inputs;
+use crate::ready::encode_ready;
+use circuit::values::Ready;
 use model::Ran;
 use model::Refusal;
 use model::Wire;
+
+pub mod inputs;
+pub mod ready;
+pub mod seed;
+
+// The inputs' tokens for their values; or the first of refusals 1 to 7, 9, 10, 11, 19.
+pub fn encode(circuit: &[u8], values: &[u8], zeros: &[u8], ones: &[u8], tokens: &mut [u8]) -> Ran
+    ensures { λ r. ⌜ EncodeIs (now (circuit .entry)) (now (values .entry)) (now (zeros .entry)) (now (ones .entry)) (now (tokens .entry)) (ranOf r) (now (tokens .exit)) ⌝ }
+{
+    match encode_ready(circuit, values, zeros, ones, tokens.len()) {
+        Ready::Refused(f) => Ran::Refused(f),
+        Ready::Go(z) => {
+            encode_inputs(z.n, values, zeros, ones, tokens);
+            Ran::Done
+        }
+    }
+}
 
 // The refusals of pick, in order: 10, 11, 20.
 pub fn pick_check(zeros: &[u8], ones: &[u8], wire: u16, bit: u8) -> Ran
@@ -42,7 +61,11 @@ pub fn pick<'a>(zeros: &'a [u8], ones: &'a [u8], wire: u16, bit: u8) -> &'a [u8]
             let w = wire as usize;
             let at = 16 * (w - 1);
             let end = at + 16;
-            if bit == 0 { &zeros[at..end] } else { &ones[at..end] }
+            if bit == 0 {
+                &zeros[at..end]
+            } else {
+                &ones[at..end]
+            }
         }
     }
 }

@@ -32,7 +32,14 @@ fn rooms_ready(z: Sizes, scheme: u8, km: usize, kz: usize, ko: usize) -> Ready
 }
 
 // Garble's: 1 to 7, 8, 14, 19.
-pub fn garble_ready(circuit: &[u8], seed: &[u8], scheme: u8, km: usize, kz: usize, ko: usize) -> Ready
+pub fn garble_ready(
+    circuit: &[u8],
+    seed: &[u8],
+    scheme: u8,
+    km: usize,
+    kz: usize,
+    ko: usize,
+) -> Ready
     ensures { λ r. ⌜ readyOf r ≡ garbleReady (now (circuit .entry)) (now (seed .entry)) scheme km kz ko ⌝ }
 {
     match check(circuit) {

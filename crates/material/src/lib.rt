@@ -3,6 +3,8 @@ ghost use mathlib.Core.Path.{_≡_};
 ghost use Prim.Native.Nat.{_≤_};
 ghost use Rattle.model.specs.Material.{rowsStored, materialLength};
 
+pub mod writers;
+
 // The rows of a charged gate, by the scheme byte.
 pub fn rows_stored(scheme: u8) -> usize
     ensures { λ r. ⌜ (r ≡ rowsStored scheme) × (r ≤ 4) ⌝ }

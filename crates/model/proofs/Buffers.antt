@@ -52,6 +52,27 @@ pub over-none : (o : List ℕ) → o ≡ over [] o
 unfolding over
 over-none o = refl
 
+-- ---- bytes at an index
+module _ (o : List ℕ) (at : ℕ) where
+  pub put-length : (b : List ℕ) → at + length b ≤ length o → length (put o at b) ≡ length o
+  unfolding put over
+  put-length b h = simp (length-append, length-take-le at o (omega arith), length-drop) (omega arith)
+
+  -- more bytes, right after those written
+  pub put-put : (a b : List ℕ) (j : ℕ) → j ≡ at + length a → at + length a + length b ≤ length o → put (put o at a) j b ≡ put o at (a ++ b)
+  unfolding put over
+  put-put a b j e h =
+      let l : length (take at o) ≡ at = length-take-le at o (omega arith) in
+      let t : length (take at o ++ a) ≡ j = length-append (take at o) a ∙ omega (arith, l, e) in
+      let d : length a + length b ≡ length (a ++ b) = sym (length-append a b) in
+      rw (← append-assoc (take at o) a, take-at (take at o ++ a) _ j t, drop-at (take at o ++ a) _ j t)
+      (append-assoc (take at o) a _ ∙ ap (λ (x : List ℕ). take at o ++ x) (rw (drop-drop (length b) (length a) (drop at o), append-assoc, ← d)))
+
+  -- no bytes
+  pub put-none : o ≡ put o at []
+  unfolding put over
+  put-none = sym (take-append-drop at o)
+
 -- ---- copying a list to the front
 module _ (src o : List ℕ) where
   pub record Copied (j : ℕ) (d : List ℕ) : Type 0 where

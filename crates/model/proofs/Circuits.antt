@@ -1,12 +1,14 @@
 -- Laws of circuits: one gate more. Assumes nothing.
-use Prim.Native.Nat.{ℕ, zero, suc, _+_, _≤_, _<_}
-use native.Mathlib.Nat.{add-zero}
+use Prim.Native.Nat.{ℕ, zero, suc, _+_, _-_, _≤_, _<_}
+use native.Mathlib.Nat.{add-zero, add-suc}
 use native.Mathlib.Omega.{arith}
 use mathlib.Core.Path.{_≡_, refl, sym, ap, _∙_}
 use mathlib.Core.List.{List, [], _∷_, _++_}
 use lib.ListN.{length, length-append}
 use Rattle.model.specs.declared.Gate.{Gate}
+use Rattle.model.specs.Bytes.{tabulate}
 use Rattle.model.specs.Circuit.{Kind, charged, free, refused, kindOf, charge, charges, wires}
+use Rattle.model.proofs.Lists.{tabulate-snoc}
 
 pub charges-snoc : (gs : List Gate) (g : Gate) → charges (gs ++ (g ∷ [])) ≡ charges gs + charge (kindOf (g .code))
 unfolding charges
@@ -23,6 +25,18 @@ pub charges-le : (gs : List Gate) → charges gs ≤ length gs
 unfolding charges
 charges-le [] = omega arith
 charges-le (g ∷ gs) = omega (arith, charge-le (kindOf (g .code)), charges-le gs)
+
+-- charged gates among the first k of q, and gate k
+module _ (f : ℕ → Gate) where
+  charges-grow : (k j : ℕ) → charges (tabulate k f) ≤ charges (tabulate (k + j) f)
+  charges-grow k zero = rw add-zero (omega arith)
+  charges-grow k (suc j) = rw (add-suc, tabulate-snoc (k + j) f, charges-snoc) (omega (arith, charges-grow k j))
+
+  pub charges-among : (k q : ℕ) → k < q → charges (tabulate k f) + charge (kindOf (f k .code)) ≤ charges (tabulate q f)
+  charges-among k q h =
+      let e : suc k + (q - suc k) ≡ q = omega arith in
+      let g : charges (tabulate (suc k) f) ≡ charges (tabulate k f) + charge (kindOf (f k .code)) = rw (tabulate-snoc k f, charges-snoc) in
+      rw (← g, ← e) (charges-grow (suc k) (q - suc k))
 
 module _ {A : Type 0} (step : List A → Gate → A) where
   pub wires-snoc : (gs : List Gate) (g : Gate) (ws : List A) → wires step (gs ++ (g ∷ [])) ws ≡ wires step gs ws ++ (step (wires step gs ws) g ∷ [])

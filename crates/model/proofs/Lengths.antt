@@ -33,7 +33,7 @@ run-blocks S sound (g ∷ gs) bs {k} r =
 
 -- ---- zero and one tokens
 
-from-blocks : (f : ℕ → Block) → ((i : ℕ) → length (f i) ≡ 16) → (i n : ℕ) → Blocks n (from i n f)
+pub from-blocks : (f : ℕ → Block) → ((i : ℕ) → length (f i) ≡ 16) → (i n : ℕ) → Blocks n (from i n f)
 from-blocks f h i zero = none
 from-blocks f h i (suc n) = more (h i) (from-blocks f h (suc i) n)
 

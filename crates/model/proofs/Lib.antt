@@ -5,6 +5,7 @@ pub mod Buffers
 pub mod Xor
 pub mod Field
 pub mod Circuits
+pub mod Calls
 pub mod Verdicts
 pub mod Examples
 pub mod Bits

@@ -1,8 +1,8 @@
 -- Laws of `tabulate`: equal tables, one more entry, and a list as the table of its entries. Assumes nothing.
 use mathlib.Core.Path.{_≡_, refl, sym, ap, ap₂, _∙_}
-use mathlib.Core.List.{List, [], _∷_, _++_}
+use mathlib.Core.List.{List, [], _∷_, _++_, map}
 use Prim.Native.Nat.{ℕ, zero, suc, _+_, _<_, _≤_}
-use native.Mathlib.Nat.{add-zero, add-suc, suc-add, zero-add}
+use native.Mathlib.Nat.{add-zero, add-suc, suc-add, zero-add, le-of-suc-le-suc, not-suc-le-zero}
 use native.Mathlib.Numerals.{add-one}
 use native.Mathlib.Omega.{arith}
 use lib.ListN.{length, getD, take, drop, set, length-drop}
@@ -38,6 +38,31 @@ module _ {A : Type 0} where
 
   pub full : (r : List A) (i n : ℕ) (f : ℕ → A) → length r ≡ n → i ≡ n → take i r ≡ tabulate i f → r ≡ tabulate n f
   full r i n f l h e = sym (take-all i r (omega arith)) ∙ e ∙ ap (λ (k : ℕ). tabulate k f) h
+
+  -- entry k of a table, and its first entries
+  from-entry : (d : A) (i n : ℕ) (f : ℕ → A) (k : ℕ) → k < n → getD (from i n f) k d ≡ f (i + k)
+  from-entry d i zero f k h = absurd (not-suc-le-zero h)
+  from-entry d i (suc n) f zero h = ap f (sym (add-zero i))
+  from-entry d i (suc n) f (suc k) h = from-entry d (suc i) n f k (le-of-suc-le-suc h) ∙ ap f (suc-add i k ∙ sym (add-suc i k))
+
+  pub entry : (d : A) (n : ℕ) (f : ℕ → A) (k : ℕ) → k < n → getD (tabulate n f) k d ≡ f k
+  entry d n f k h = from-entry d 0 n f k h ∙ ap f (zero-add k)
+
+  from-take : (i k n : ℕ) (f : ℕ → A) → k ≤ n → take k (from i n f) ≡ from i k f
+  from-take i zero n f h = refl
+  from-take i (suc k) zero f h = absurd (not-suc-le-zero h)
+  from-take i (suc k) (suc n) f h = ap (λ (r : List A). f i ∷ r) (from-take (suc i) k n f (le-of-suc-le-suc h))
+
+  pub tabulate-take : (k n : ℕ) (f : ℕ → A) → k ≤ n → take k (tabulate n f) ≡ tabulate k f
+  tabulate-take k n f h = from-take 0 k n f h
+
+-- a function on each entry
+from-map : {A B : Type 0} (g : A → B) (i n : ℕ) (f : ℕ → A) → map g (from i n f) ≡ from i n (λ k. g (f k))
+from-map g i zero f = refl
+from-map {A} {B} g i (suc n) f = ap (λ (r : List B). g (f i) ∷ r) (from-map g (suc i) n f)
+
+pub tabulate-map : {A B : Type 0} (g : A → B) (n : ℕ) (f : ℕ → A) → map g (tabulate n f) ≡ tabulate n (λ k. g (f k))
+tabulate-map g n f = from-map g 0 n f
 
 from-suc : (i n : ℕ) (x : ℕ) (l : List ℕ) → from (suc i) n (λ k. getD (x ∷ l) k 0) ≡ from i n (λ k. getD l k 0)
 from-suc i zero x l = refl

@@ -1,0 +1,37 @@
+-- What the inner functions leave in the buffers.
+use Prim.Native.Nat.{ℕ, _+_, _*_, _≤_}
+use mathlib.Core.Path.{_≡_}
+use mathlib.Core.List.{List, [], _∷_}
+use lib.ListN.{length, getD, take, drop}
+use Rattle.model.specs.Bytes.{tabulate, over}
+use Rattle.model.specs.Aes.{Block, _⊕_, cipher, block}
+use Rattle.model.specs.Material.{joinBlocks}
+
+-- room for the tokens of n inputs in both lists
+pub record InputsRoom (n : ℕ) (z o : List ℕ) : Type 0 where
+  pub zeros : 16 * n ≤ length z
+  pub ones : 16 * n ≤ length o
+
+-- the inputs' zero and one tokens, under the seed's schedule w and the offset R: z, o at entry and z′, o′ at exit
+pub record InputsIs (w : List ℕ) (R : Block) (n : ℕ) (z o z′ o′ : List ℕ) : Type 0 where
+  pub zeros-left : z′ ≡ over (joinBlocks (tabulate n (λ i. cipher w (block (i + 1))))) z
+  pub ones-left : o′ ≡ over (joinBlocks (tabulate n (λ i. cipher w (block (i + 1)) ⊕ R))) o
+
+-- ---- encoding
+
+-- the token of input i, from 0, for a value
+unfoldable pub tokenOf : ℕ → List ℕ → List ℕ → ℕ → Block
+tokenOf value z o i = getD (take 16 (drop (16 * i) z) ∷ take 16 (drop (16 * i) o) ∷ []) value (block 0)
+
+pub record TokenRoom (value : ℕ) (z o : List ℕ) (i : ℕ) : Type 0 where
+  pub bit : value ≤ 1
+  pub zeros : 16 * i + 16 ≤ length z
+  pub ones : 16 * i + 16 ≤ length o
+
+-- n values that are bits, lists of n tokens, and room for n more
+pub record EncodeStart (n : ℕ) (v z o t : List ℕ) : Type 0 where
+  pub values : length v ≡ n
+  pub bits : (i : ℕ) → getD v i 0 ≤ 1
+  pub zeros : length z ≡ 16 * n
+  pub ones : length o ≡ 16 * n
+  pub room : 16 * n ≤ length t

@@ -1,0 +1,38 @@
+// Encoding (01, Operations): for each input its token for its value.
+ghost use mathlib.Core.Path.{_≡_};
+ghost use mathlib.Core.List.{[], _∷_};
+ghost use lib.ListN.{getD};
+ghost use Rattle.model.specs.Bytes.{over};
+ghost use Rattle.model.specs.Aes.{block};
+ghost use Rattle.model.specs.Material.{joinBlocks};
+ghost use Rattle.model.specs.Evaluation.{cut, encode};
+ghost use Rattle.garble.specs.Written.{TokenRoom, tokenOf, EncodeStart};
+use block::Block;
+use block::load;
+use block::store;
+
+// The token of input i, from 0, in the zero list for value 0, in the one list for value 1.
+fn input_token(value: u8, zeros: &[u8], ones: &[u8], i: usize) -> Block
+    requires { ⌜ TokenRoom value (now zeros) (now ones) i ⌝ }
+    ensures { λ r. ⌜ r .bytes ≡ tokenOf value (now (zeros .entry)) (now (ones .entry)) i ⌝ }
+{
+    let at = 16 * i;
+    if value == 0 {
+        load(zeros, at)
+    } else {
+        load(ones, at)
+    }
+}
+
+// The tokens of all inputs.
+pub fn encode_inputs(n: usize, values: &[u8], zeros: &[u8], ones: &[u8], tokens: &mut [u8])
+    requires { ⌜ EncodeStart n (now values) (now zeros) (now ones) (now tokens) ⌝ }
+    ensures { λ _. ⌜ now (tokens .exit) ≡ over (joinBlocks (encode (now (values .entry)) (cut n (now (zeros .entry))) (cut n (now (ones .entry))))) (now (tokens .entry)) ⌝ }
+{
+    let mut i: usize = 0;
+    while i < n {
+        let x = input_token(values[i], zeros, ones, i);
+        store(tokens, 16 * i, x);
+        i += 1;
+    }
+}

@@ -1,0 +1,48 @@
+// The marked bytes of a material, written: its header, the head of a row record and of the last record (01, Material).
+ghost use mathlib.Core.Path.{_≡_};
+ghost use mathlib.Core.List.{[], _∷_, _++_};
+ghost use Prim.Native.Nat.{_+_, _≤_};
+ghost use lib.ListN.{length};
+ghost use Rattle.model.specs.Bytes.{over, put};
+ghost use Rattle.model.specs.Material.{two};
+use buffer::copy_front;
+use buffer::copy_to;
+use model::Wire;
+
+// The header: mark 47 48, the scheme byte, and n, m, q of 2 bytes each.
+pub fn write_header(out: &mut [u8], scheme: u8, n: usize, m: usize, q: usize)
+    requires { ⌜ 9 ≤ length (now out) ⌝ }
+    ensures { λ _. ⌜ now (out .exit) ≡ over (0x47 ∷ 0x48 ∷ scheme ∷ two n ++ two m ++ two q) (now (out .entry)) ⌝ }
+{
+    let head = [
+        0x47,
+        0x48,
+        scheme,
+        (n / 256 % 256) as u8,
+        (n % 256) as u8,
+        (m / 256 % 256) as u8,
+        (m % 256) as u8,
+        (q / 256 % 256) as u8,
+        (q % 256) as u8,
+    ];
+    copy_front(&head, out);
+}
+
+// The head of a charged gate's record: mark 47 54 and the gate's own wire number. Its rows come after it.
+pub fn write_record_head(out: &mut [u8], at: usize, own: Wire)
+    requires { ⌜ at + 4 ≤ length (now out) ⌝ }
+    ensures { λ _. ⌜ now (out .exit) ≡ put (now (out .entry)) at (0x47 ∷ 0x54 ∷ two (own .0)) ⌝ }
+{
+    let wire = own.0;
+    let head = [0x47, 0x54, (wire / 256 % 256) as u8, (wire % 256) as u8];
+    copy_to(&head, out, at);
+}
+
+// The head of the last record: mark 47 44. A byte for each output comes after it.
+pub fn write_last_head(out: &mut [u8], at: usize)
+    requires { ⌜ at + 2 ≤ length (now out) ⌝ }
+    ensures { λ _. ⌜ now (out .exit) ≡ put (now (out .entry)) at (0x47 ∷ 0x44 ∷ []) ⌝ }
+{
+    let head = [0x47, 0x44];
+    copy_to(&head, out, at);
+}
