@@ -5,3 +5,5 @@ pub mod BlockLaws
 pub mod InputLaws
 pub mod EncodeLaws
 pub mod EncodeIsLaws
+pub mod RecordLaws
+pub mod ChargedLaws

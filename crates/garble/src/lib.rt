@@ -12,6 +12,7 @@ use model::Wire;
 
 pub mod inputs;
 pub mod ready;
+pub mod records;
 pub mod seed;
 
 // The inputs' tokens for their values; or the first of refusals 1 to 7, 9, 10, 11, 19.

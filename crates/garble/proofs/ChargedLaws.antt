@@ -1,0 +1,118 @@
+-- A charged gate in the buffers. Assumes nothing.
+use Prim.Native.Nat.{ℕ, _+_, _*_, _≤_, _<_}
+use native.Mathlib.Omega.{arith}
+use mathlib.Core.Path.{_≡_, refl, sym, ap, _∙_}
+use mathlib.Core.List.{List, [], _∷_, _++_}
+use mathlib.Core.Bool.{Bool, true, false, cond}
+use borrow.Author.Tests.{ne-eqb, eqb-true, eqb-false}
+use lib.Dec.{eqb}
+use lib.ListN.{length, take}
+use Rattle.model.specs.Bytes.{put}
+use Rattle.model.specs.Aes.{Block, block, cipher}
+use Rattle.model.specs.Scheme as Model
+use Rattle.model.specs.Gax.{dualKey, valueAt, sealed, rowAt, gax}
+use Rattle.model.specs.Gaxr.{reducedZero, gaxr}
+use Rattle.model.specs.HalfGates.{hash, halfA, halfB, rowG, rowE, joined, halfZero, half}
+use Rattle.model.specs.Garbling.{schemeOf}
+use Rattle.model.specs.Material.{joinBlocks, two}
+use Rattle.scheme.specs.Garbled.{site, GarbledIs}
+use Rattle.scheme.specs.declared.Site.{Site}
+use Rattle.scheme.specs.declared.GarbledGate.{GarbledGate}
+use Rattle.garble.specs.Walk.{RecordRoom, recordBytes, FreshIs, siteAt, ChargedStart, ChargedIs}
+
+-- ---- fresh_block
+module _ (w : List ℕ) (scheme g : ℕ) (r : Block) where
+  pub fresh-gax : r ≡ cipher w (block g) → FreshIs w scheme g r
+  fresh-gax e = record { if-gax = λ h. e }
+
+  pub fresh-other : (scheme ≡ 1 → ⊥) → FreshIs w scheme g r
+  fresh-other h = record { if-gax = λ e. absurd (h e) }
+
+-- ---- two sites that differ in `fresh` alone
+
+refreshed : Block → Model.Site → Model.Site
+refreshed f s = record { R = s .R; fresh = f; g = s .g; code = s .code; Xa = s .Xa; Xb = s .Xb }
+
+gaxr-zero : (f : Block) (s : Model.Site) → gaxr dualKey .zeroToken (refreshed f s) ≡ gaxr dualKey .zeroToken s
+unfolding gaxr reducedZero sealed valueAt refreshed
+gaxr-zero f s = refl
+
+gaxr-rows : (f : Block) (s : Model.Site) → gaxr dualKey .rows (refreshed f s) ≡ gaxr dualKey .rows s
+unfolding gaxr reducedZero rowAt sealed valueAt refreshed
+gaxr-rows f s = refl
+
+half-zero : (f : Block) (s : Model.Site) → half hash .zeroToken (refreshed f s) ≡ half hash .zeroToken s
+unfolding half halfZero joined rowG rowE halfA halfB refreshed
+half-zero f s = refl
+
+half-rows : (f : Block) (s : Model.Site) → half hash .rows (refreshed f s) ≡ half hash .rows s
+unfolding half rowG rowE halfA halfB refreshed
+half-rows f s = refl
+
+-- a scheme other than GaX has no use for it
+module _ (k : ℕ) (h : k ≡ 1 → ⊥) (f : Block) (s : Model.Site) where
+  other-zero : schemeOf k .zeroToken (refreshed f s) ≡ schemeOf k .zeroToken s
+  unfolding schemeOf
+  other-zero = rw (ne-eqb k 1 h) (go (eqb k 2))
+    where
+      go : (b : Bool) → cond b (gaxr dualKey) (half hash) .zeroToken (refreshed f s) ≡ cond b (gaxr dualKey) (half hash) .zeroToken s
+      go true = gaxr-zero f s
+      go false = half-zero f s
+
+  other-rows : schemeOf k .rows (refreshed f s) ≡ schemeOf k .rows s
+  unfolding schemeOf
+  other-rows = rw (ne-eqb k 1 h) (go (eqb k 2))
+    where
+      go : (b : Bool) → cond b (gaxr dualKey) (half hash) .rows (refreshed f s) ≡ cond b (gaxr dualKey) (half hash) .rows s
+      go true = gaxr-rows f s
+      go false = half-rows f s
+
+-- a gate garbled with what `fresh_block` gave is garbled as the site says
+module _ (w : List ℕ) (k g : ℕ) (f : Block) (R : Block) (code : ℕ) (xa xb : Block) (made : GarbledGate) (fresh : FreshIs w k g f)
+    (is : GarbledIs (schemeOf k) (refreshed f (siteAt w R g code xa xb)) made) where
+  of-gax : k ≡ 1 → GarbledIs (schemeOf k) (siteAt w R g code xa xb) made
+  unfolding refreshed siteAt
+  of-gax e = rw (fresh .if-gax e) at is
+
+  of-other : (k ≡ 1 → ⊥) → GarbledIs (schemeOf k) (siteAt w R g code xa xb) made
+  of-other h = record {
+    is-zero = is .is-zero ∙ other-zero k h f (siteAt w R g code xa xb);
+    is-rows = is .is-rows ∙ other-rows k h f (siteAt w R g code xa xb)
+  }
+
+  gate-is : GarbledIs (schemeOf k) (siteAt w R g code xa xb) made
+  gate-is = go (eqb k 1) refl
+    where
+      go : (b : Bool) → eqb k 1 ≡ b → GarbledIs (schemeOf k) (siteAt w R g code xa xb) made
+      go true e = of-gax (eqb-true k 1 e)
+      go false e = of-other (eqb-false k 1 e)
+
+-- ---- garble_charged
+
+-- how many rows a scheme stores
+rows-within : (k : ℕ) → (2 ≤ schemeOf k .stored) × (schemeOf k .stored ≤ 4)
+unfolding schemeOf gax gaxr half
+rows-within k = go (eqb k 1) (eqb k 2)
+  where
+    go : (a b : Bool) → (2 ≤ cond a (gax dualKey) (cond b (gaxr dualKey) (half hash)) .stored) × (cond a (gax dualKey) (cond b (gaxr dualKey) (half hash)) .stored ≤ 4)
+    go true b = (omega arith, omega arith)
+    go false true = (omega arith, omega arith)
+    go false false = (omega arith, omega arith)
+
+module _ (scheme stored code u v x : ℕ) (m : List ℕ) (at : ℕ) (z : List ℕ) (slot : ℕ) (start : ChargedStart scheme stored code u v x m at z slot) where
+  pub charged-record : RecordRoom at stored m
+  charged-record =
+      let l = rows-within scheme in
+      record { low = omega (arith, start .is-stored, l .0); high = omega (arith, start .is-stored, l .1); room = start .record-room }
+
+  module _ (w : List ℕ) (st : Site) (fresh : FreshIs w scheme (st .g .0) (st .fresh .bytes)) (made : GarbledGate) (is : GarbledIs (schemeOf scheme) (site st) made)
+      (m′ z′ : List ℕ) where
+    pub charged-done : z′ ≡ put z slot (made .zero .bytes) → m′ ≡ put m at (recordBytes (st .g .0) stored made)
+        → ChargedIs scheme (siteAt w (st .r .bytes) (st .g .0) (st .code) (st .xa .bytes) (st .xb .bytes)) m at z slot m′ z′
+    charged-done is-z is-m =
+        let h : GarbledIs (schemeOf scheme) (siteAt w (st .r .bytes) (st .g .0) (st .code) (st .xa .bytes) (st .xb .bytes)) made =
+        gate-is w scheme (st .g .0) (st .fresh .bytes) (st .r .bytes) (st .code) (st .xa .bytes) (st .xb .bytes) made fresh (unfold site refreshed siteAt in is) in
+        record {
+          zeros-left = rw (h .is-zero) at is-z;
+          material-left = is-m ∙ unfold recordBytes siteAt in (rw (start .is-stored, h .is-rows))
+        }

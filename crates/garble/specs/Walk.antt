@@ -1,0 +1,76 @@
+-- The walk over the gates: what it starts from, and what one gate leaves in the buffers.
+use Prim.Native.Nat.{ℕ, _+_, _*_, _≤_, _<_}
+use mathlib.Core.Path.{_≡_}
+use mathlib.Core.List.{List, [], _∷_, _++_}
+use lib.ListN.{length, take}
+use Rattle.model.specs.declared.Gate.{Gate}
+use Rattle.model.specs.Bytes.{tabulate, put}
+use Rattle.model.specs.Circuit.{charged, charge, charges, kindOf, circuitOf, inputs, outputs, gates, gateAt, wires}
+use Rattle.model.specs.Aes.{Block, block, cipher, keyExpansion}
+use Rattle.model.specs.Tokens.{Garbling, garblingOf, offset, inputZeros}
+use Rattle.model.specs.Scheme.{Site, Scheme}
+use Rattle.model.specs.Garbling.{schemeOf, siteOf, zeroStep}
+use Rattle.model.specs.Material.{joinBlocks, two, materialLength, recordOf}
+use Rattle.model.specs.Refusals.{fine, circuitVerdict}
+use Rattle.scheme.specs.declared.GarbledGate.{GarbledGate}
+
+-- the zero tokens after k gates
+unfoldable pub zerosTo : List ℕ → List ℕ → ℕ → ℕ → List Block
+zerosTo c seed scheme k = wires (zeroStep (garblingOf c seed scheme)) (tabulate k (gateAt c)) (inputZeros (garblingOf c seed scheme))
+
+-- a charged gate's record: its head, and its first rows
+unfoldable pub recordBytes : ℕ → ℕ → GarbledGate → List ℕ
+recordBytes own stored g =
+    0x47 ∷ 0x54 ∷ two own ++ joinBlocks (take stored (g .row0 .bytes ∷ g .row1 .bytes ∷ g .row2 .bytes ∷ g .row3 .bytes ∷ []))
+
+-- room for a record of 2 to 4 rows
+pub record RecordRoom (at stored : ℕ) (m : List ℕ) : Type 0 where
+  pub low : 2 ≤ stored
+  pub high : stored ≤ 4
+  pub room : at + 4 + 16 * stored ≤ length m
+
+-- r is AES under the seed of block g, where the scheme asks for it
+pub record FreshIs (w : List ℕ) (scheme g : ℕ) (r : Block) : Type 0 where
+  pub if-gax : scheme ≡ 1 → r ≡ cipher w (block g)
+
+-- what garbling knows at a gate of wire g, under the seed's schedule w
+unfoldable pub siteAt : List ℕ → Block → ℕ → ℕ → Block → Block → Site
+siteAt w R g code xa xb = record { R = R; fresh = cipher w (block g); g = g; code = code; Xa = xa; Xb = xb }
+
+-- a charged gate, of the pair u, v with its own value x; room for its record and its zero token
+pub record ChargedStart (scheme stored code u v x : ℕ) (m : List ℕ) (at : ℕ) (z : List ℕ) (slot : ℕ) : Type 0 where
+  pub scheme-low : 1 ≤ scheme
+  pub scheme-high : scheme ≤ 3
+  pub is-stored : stored ≡ schemeOf scheme .stored
+  pub is-charged : kindOf code ≡ charged u v x
+  pub record-room : at + 4 + 16 * stored ≤ length m
+  pub slot-room : slot + 16 ≤ length z
+
+-- what it leaves
+pub record ChargedIs (scheme : ℕ) (s : Site) (m : List ℕ) (at : ℕ) (z : List ℕ) (slot : ℕ) (m′ z′ : List ℕ) : Type 0 where
+  pub zeros-left : z′ ≡ put z slot (schemeOf scheme .zeroToken s)
+  pub material-left : m′ ≡ put m at (0x47 ∷ 0x54 ∷ two (s .g) ++ joinBlocks (schemeOf scheme .rows s))
+
+-- the garbling that the walk is of: n inputs, r rows for a charged gate, the offset R, and the schedule w of the seed
+pub record WalkOf (c seed : List ℕ) (scheme n r : ℕ) (R : Block) (w : List ℕ) : Type 0 where
+  pub accepted : circuitVerdict c ≡ fine
+  pub scheme-low : 1 ≤ scheme
+  pub scheme-high : scheme ≤ 3
+  pub is-n : n ≡ inputs c
+  pub is-rows : r ≡ schemeOf scheme .stored
+  pub is-offset : R ≡ offset (garblingOf c seed scheme)
+  pub is-schedule : w ≡ keyExpansion seed
+
+-- gate k comes next, its record at `at`: m and z are the material and the zero tokens so far
+pub record StepStart (c seed : List ℕ) (scheme r k at : ℕ) (m z : List ℕ) : Type 0 where
+  pub more : k < gates c
+  pub is-at : at ≡ 9 + charges (tabulate k (gateAt c)) * (4 + 16 * r)
+  pub file-room : 11 + outputs c + charges (tabulate (gates c) (gateAt c)) * (4 + 16 * r) ≤ length m
+  pub wires-room : 16 * (inputs c + gates c) ≤ length z
+  pub so-far : take (16 * (inputs c + k)) z ≡ joinBlocks (zerosTo c seed scheme k)
+
+-- what gate k leaves: m′ and z′ at exit, and the place of the next record
+pub record StepIs (c seed : List ℕ) (scheme r k at : ℕ) (m z : List ℕ) (next : ℕ) (m′ z′ : List ℕ) : Type 0 where
+  pub zeros-left : z′ ≡ put z (16 * (inputs c + k)) (zeroStep (garblingOf c seed scheme) (zerosTo c seed scheme k) (gateAt c k))
+  pub material-left : m′ ≡ put m at (recordOf (garblingOf c seed scheme) (kindOf (gateAt c k .code)) (siteOf (garblingOf c seed scheme) (zerosTo c seed scheme k) (gateAt c k)))
+  pub is-next : next ≡ at + charge (kindOf (gateAt c k .code)) * (4 + 16 * r)

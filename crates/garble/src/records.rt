@@ -1,0 +1,125 @@
+// A charged gate, garbled into the buffers: its zero token and its record (01, Material).
+ghost use mathlib.Core.Path.{_≡_};
+ghost use Rattle.model.specs.Bytes.{put};
+ghost use Rattle.model.specs.Aes.{IsSBox, keyExpansion, fixedKey};
+ghost use Rattle.garble.specs.Walk.{RecordRoom, recordBytes, FreshIs, siteAt, ChargedStart, ChargedIs};
+use crate::seed::seed_block;
+use block::Block;
+use block::store;
+use material::writers::write_record_head;
+use model::Truth;
+use model::Wire;
+use scheme::GarbledGate;
+use scheme::Site;
+use scheme::garble_gate;
+
+// The record of a charged gate with two rows: mark 47 54, its wire number, and the rows.
+fn write_two(material: &mut [u8], at: usize, own: Wire, g: GarbledGate)
+    requires { ⌜ RecordRoom at 2 (now material) ⌝ }
+    ensures { λ _. ⌜ now (material .exit) ≡ put (now (material .entry)) at (recordBytes (own .0) 2 g) ⌝ }
+{
+    write_record_head(material, at, own);
+    store(material, at + 4, g.row0);
+    store(material, at + 20, g.row1);
+}
+
+// The same with three rows.
+fn write_three(material: &mut [u8], at: usize, own: Wire, g: GarbledGate)
+    requires { ⌜ RecordRoom at 3 (now material) ⌝ }
+    ensures { λ _. ⌜ now (material .exit) ≡ put (now (material .entry)) at (recordBytes (own .0) 3 g) ⌝ }
+{
+    write_two(material, at, own, g);
+    store(material, at + 36, g.row2);
+}
+
+// The same with four.
+fn write_four(material: &mut [u8], at: usize, own: Wire, g: GarbledGate)
+    requires { ⌜ RecordRoom at 4 (now material) ⌝ }
+    ensures { λ _. ⌜ now (material .exit) ≡ put (now (material .entry)) at (recordBytes (own .0) 4 g) ⌝ }
+{
+    write_three(material, at, own, g);
+    store(material, at + 52, g.row3);
+}
+
+// The record of a charged gate, with as many rows as its scheme stores.
+pub fn write_record(material: &mut [u8], at: usize, own: Wire, stored: usize, g: GarbledGate)
+    requires { ⌜ RecordRoom at stored (now material) ⌝ }
+    ensures { λ _. ⌜ now (material .exit) ≡ put (now (material .entry)) at (recordBytes (own .0) stored g) ⌝ }
+{
+    if stored == 2 {
+        write_two(material, at, own, g);
+        return;
+    }
+    if stored == 3 {
+        write_three(material, at, own, g);
+        return;
+    }
+    write_four(material, at, own, g);
+}
+
+// What scheme 1 takes for a gate's zero token: AES under the seed of block g. The other schemes make the token themselves.
+fn fresh_block(t: &[u8; 256], ws: &[u8; 176], scheme: u8, own: Wire) -> Block
+    requires { ⌜ IsSBox (now t) ⌝ }
+    ensures { λ r. ⌜ FreshIs (now (ws .entry)) scheme (own .0) (r .bytes) ⌝ }
+{
+    if scheme == 1 {
+        seed_block(t, ws, own.0 as usize)
+    } else {
+        Block::of_number(0)
+    }
+}
+
+// What the walk over the gates goes by: the scheme, how many rows it stores, the inputs, and the offset R.
+pub struct Plan {
+    pub scheme: u8,
+    pub stored: usize,
+    pub n: usize,
+    pub r: Block,
+}
+
+// A gate as it was read: its code, its own wire, and the zero tokens of its operands.
+pub struct GateIn {
+    pub code: u8,
+    pub own: Wire,
+    pub xa: Block,
+    pub xb: Block,
+}
+
+// A charged gate: its zero token goes to a slot of the zeros, its record to a place in the material.
+pub fn garble_charged(
+    t: &[u8; 256],
+    w: &[u8; 176],
+    ws: &[u8; 176],
+    plan: Plan,
+    g: GateIn,
+    u: Truth,
+    v: Truth,
+    own: Truth,
+    material: &mut [u8],
+    at: usize,
+    zeros: &mut [u8],
+    slot: usize,
+)
+    requires { ⌜ IsSBox (now t) ⌝ }
+    requires { ⌜ now w ≡ keyExpansion fixedKey ⌝ }
+    requires { ⌜ ChargedStart (plan .scheme) (plan .stored) (g .code) (u .0) (v .0) (own .0) (now material) at (now zeros) slot ⌝ }
+    ensures { λ _. ⌜ ChargedIs (plan .scheme) (siteAt (now (ws .entry)) (plan .r .bytes) (g .own .0) (g .code) (g .xa .bytes) (g .xb .bytes)) (now (material .entry)) at (now (zeros .entry)) slot (now (material .exit)) (now (zeros .exit)) ⌝ }
+{
+    let scheme = plan.scheme;
+    let wire = g.own;
+    let r = plan.r;
+    let xa = g.xa;
+    let xb = g.xb;
+    let fresh = fresh_block(t, ws, scheme, wire);
+    let site = Site {
+        r,
+        fresh,
+        g: wire,
+        code: g.code,
+        xa,
+        xb,
+    };
+    let made = garble_gate(t, w, scheme, site, u, v, own);
+    store(zeros, slot, made.zero);
+    write_record(material, at, wire, plan.stored, made);
+}

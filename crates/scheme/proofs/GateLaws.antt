@@ -1,0 +1,76 @@
+-- A garbled gate is what its scheme says. Assumes nothing.
+use mathlib.Core.Path.{_≡_, refl, sym, ap, _∙_}
+use Prim.Native.Nat.{ℕ, _+_, _*_, _-_, _≤_}
+use native.Mathlib.Omega.{arith}
+use borrow.Author.Tests.{eq-eqb, ne-eqb}
+use lib.Dec.{eqb}
+use Rattle.model.specs.Circuit.{charged, kindOf}
+use Rattle.model.specs.Aes.{Block, _⊕_, block, times}
+use Rattle.model.specs.Tokens.{colour}
+use Rattle.model.specs.Gax.{dualKey, rowAt, gax}
+use Rattle.model.specs.Gaxr.{gaxr}
+use Rattle.model.specs.HalfGates.{hash, halfA, halfB, rowG, rowE, joined, halfZero, half}
+use Rattle.model.specs.Garbling.{schemeOf}
+use Rattle.model.specs.Scheme as Model
+use Rattle.block.specs.declared.Block as Blocks
+use Rattle.scheme.specs.declared.Site.{Site}
+use Rattle.scheme.specs.declared.GarbledGate.{GarbledGate}
+use Rattle.scheme.specs.declared.half.HalfGate.{HalfGate}
+use Rattle.scheme.specs.Garbled.{site, GarbledIs, HalfIs}
+
+-- ---- GaX and GaXR: four rows, and three with the zero token that the row left out gives
+module _ (s : Site) (row0 row1 row2 row3 : Blocks.Block) where
+  pub gax-garbled : row0 .bytes ≡ rowAt dualKey (site s) (s .fresh .bytes) 0 0 → row1 .bytes ≡ rowAt dualKey (site s) (s .fresh .bytes) 0 1 →
+      row2 .bytes ≡ rowAt dualKey (site s) (s .fresh .bytes) 1 0 → row3 .bytes ≡ rowAt dualKey (site s) (s .fresh .bytes) 1 1 →
+      GarbledIs (gax dualKey) (site s) (record { zero = s .fresh; row0 = row0; row1 = row1; row2 = row2; row3 = row3 })
+  unfolding gax site
+  gax-garbled p q r t = record { is-zero = refl; is-rows = cc }
+
+-- ---- half-gates: the tokens A and B of a charged gate
+module _ (s : Site) (u v own : ℕ) (k : kindOf (s .code) ≡ charged u v own) (a b : Block)
+    (is-a : a ≡ s .xa .bytes ⊕ times (1 - u) (s .r .bytes)) (is-b : b ≡ s .xb .bytes ⊕ times (1 - v) (s .r .bytes)) where
+  half-a : a ≡ halfA (site s)
+  unfolding halfA site
+  half-a = rw k is-a
+
+  half-b : b ≡ halfB (site s)
+  unfolding halfB site
+  half-b = rw k is-b
+
+  -- its two half-gates, tR in the row of the first, and A in that of the second
+  module _ (d : ℕ) (is-d : d ≡ colour b) (z : Block) (is-z : z ≡ times d (s .r .bytes)) (g e : HalfGate)
+      (is-g : HalfIs (s .r .bytes) a (2 * s .g .0) z g) (is-e : HalfIs (s .r .bytes) b (2 * s .g .0 + 1) a e) where
+    row-g : g .row .bytes ≡ rowG hash (site s)
+    unfolding rowG site
+    row-g = rw (← half-a, ← half-b, ← is-d, ← is-z) (is-g .is-row)
+
+    row-e : e .row .bytes ≡ rowE hash (site s)
+    unfolding rowE site
+    row-e = rw (← half-a, ← half-b) (is-e .is-row)
+
+    -- what they give together, and the gate's zero token
+    pub half-garbled : (x : Block) → x ≡ g .hashed .bytes ⊕ times (colour a) (g .row .bytes) ⊕ e .hashed .bytes ⊕ times (colour b) (e .row .bytes ⊕ a) →
+        (zero : Blocks.Block) → zero .bytes ≡ x ⊕ times (1 - own) (s .r .bytes) → (none : Blocks.Block) →
+        GarbledIs (half hash) (site s) (record { zero = zero; row0 = g .row; row1 = e .row; row2 = none; row3 = none })
+    unfolding half halfZero joined site
+    half-garbled x is-x zero is-zero none =
+        record {
+          is-zero = rw (k, ← row-g, ← row-e, ← half-a, ← half-b, ← is-g .is-hash, ← is-e .is-hash, ← is-x) is-zero;
+          is-rows = cc (row-g, row-e);
+        }
+
+-- ---- the scheme of a scheme byte
+module _ (scheme : ℕ) (σ : Model.Site) (r : GarbledGate) where
+  pub scheme-gax : scheme ≡ 1 → GarbledIs (gax dualKey) σ r → GarbledIs (schemeOf scheme) σ r
+  unfolding schemeOf
+  scheme-gax e h = rw e h
+
+  pub scheme-gaxr : scheme ≡ 2 → GarbledIs (gaxr dualKey) σ r → GarbledIs (schemeOf scheme) σ r
+  unfolding schemeOf
+  scheme-gaxr e h = rw e h
+
+  pub scheme-half : (scheme ≡ 1 → ⊥) → (scheme ≡ 2 → ⊥) → GarbledIs (half hash) σ r → GarbledIs (schemeOf scheme) σ r
+  unfolding schemeOf
+  scheme-half p q h = simp (ne-eqb _ _ p, ne-eqb _ _ q) h
+
+pub ruleset scheme-cases = (scheme-gax, scheme-gaxr, scheme-half)

@@ -1,0 +1,4 @@
+-- Laws that the proofs of the functions cite, and what each scheme does to open a gate.
+pub mod BitLaws
+mod GateLaws
+pub mod Opened

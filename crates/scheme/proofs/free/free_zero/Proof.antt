@@ -1,0 +1,11 @@
+use borrow.Author.Needs.{needs}
+use Rattle.model.specs.Tokens.{freeZero}
+use Rattle.scheme.proofs.free.free_zero.Statement.{statement}
+use Rattle.scheme.proofs.free.free_zero.Tie as tie
+
+returns : tie.Need-returns
+unfolding freeZero
+returns c = cc
+
+pub free-zero-spec : {M : Type 1} → statement M
+free-zero-spec = tie.close (tie.spec (λ c κs. search needs) (λ c κs. search needs) (λ c κs. search needs) (λ c κs. search needs) (λ c κs. search needs) returns)

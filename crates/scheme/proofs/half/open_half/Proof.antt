@@ -1,0 +1,11 @@
+use borrow.Author.Needs.{needs}
+use Rattle.model.specs.HalfGates.{joined}
+use Rattle.scheme.proofs.half.open_half.Statement.{statement}
+use Rattle.scheme.proofs.half.open_half.Tie as tie
+
+returns : tie.Need-returns
+unfolding joined
+returns c = cc
+
+pub open-half-spec : {M : Type 1} → statement M
+open-half-spec = tie.close (tie.spec (λ c. search needs) (λ c. search needs) (λ c. search needs) (λ c κs. search needs) (λ c κs. search needs) (λ c κs. search needs) returns)

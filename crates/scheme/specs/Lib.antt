@@ -1,0 +1,2 @@
+-- What this crate's structs mean, in the model's terms.
+pub mod Garbled

@@ -1,0 +1,143 @@
+// GaX and GaXR (01, Scheme 1 and Scheme 2). Rows go by the colours c and d of the operands' tokens, values by the truth values that
+// these tokens carry.
+use crate::GarbledGate;
+use crate::Site;
+use crate::cipher::dual_key;
+use crate::cipher::times;
+use block::Block;
+use circuit::code::code_value;
+use model::Colour;
+use model::Truth;
+use model::Wire;
+ghost use mathlib.Core.Path.{_≡_};
+ghost use Prim.Native.Nat.{_+_, _*_, _≤_};
+ghost use Rattle.model.specs.Aes.{IsSBox, keyExpansion, fixedKey};
+ghost use Rattle.model.specs.Tokens.{colour};
+ghost use Rattle.model.specs.Gax.{dualKey, carried, tokenOf, valueAt, sealed, rowAt, gax};
+ghost use Rattle.model.specs.Gaxr.{reducedZero, gaxr};
+ghost use Rattle.scheme.specs.Garbled.{site, GarbledIs};
+
+// The truth value that the token of colour c carries on a wire of zero token x: R has colour 1.
+fn carried(x: Block, c: Colour) -> Truth
+    requires { ⌜ c .0 ≤ 1 ⌝ }
+    ensures { λ r. ⌜ (r .0 ≡ carried (x .bytes) (c .0)) × (r .0 ≤ 1) ⌝ }
+{
+    Truth(c.0 ^ x.colour().0)
+}
+
+// The token of colour c on a wire of zero token x.
+fn token_of(r: Block, x: Block, c: Colour) -> Block
+    requires { ⌜ c .0 ≤ 1 ⌝ }
+    ensures { λ a. ⌜ a .bytes ≡ tokenOf (r .bytes) (x .bytes) (c .0) ⌝ }
+{
+    let v = carried(x, c);
+    x.xor(times(r, v.0))
+}
+
+// The gate's value for the truth values that the operands' tokens of colours c and d carry.
+fn value_at(s: Site, c: Colour, d: Colour) -> Truth
+    requires { ⌜ (c .0 ≤ 1) × (d .0 ≤ 1) ⌝ }
+    ensures { λ r. ⌜ (r .0 ≡ valueAt (site s) (c .0) (d .0)) × (r .0 ≤ 1) ⌝ }
+{
+    code_value(s.code, carried(s.xa, c), carried(s.xb, d))
+}
+
+// The tweak 4g+2c+d.
+fn tweak(g: Wire, c: Colour, d: Colour) -> u64
+    requires { ⌜ (c .0 ≤ 1) × (d .0 ≤ 1) ⌝ }
+    ensures { λ r. ⌜ r ≡ 4 * g .0 + 2 * c .0 + d .0 ⌝ }
+{
+    4 * (g.0 as u64) + 2 * (c.0 as u64) + (d.0 as u64)
+}
+
+// E of z under the operands' tokens of colours c and d: one call of π.
+fn seal(t: &[u8; 256], w: &[u8; 176], s: Site, c: Colour, d: Colour, z: Block) -> Block
+    requires { ⌜ IsSBox (now t) ⌝ }
+    requires { ⌜ now w ≡ keyExpansion fixedKey ⌝ }
+    requires { ⌜ (c .0 ≤ 1) × (d .0 ≤ 1) ⌝ }
+    ensures { λ r. ⌜ r .bytes ≡ sealed dualKey (site s) (c .0) (d .0) (z .bytes) ⌝ }
+{
+    let a = token_of(s.r, s.xa, c);
+    let b = token_of(s.r, s.xb, d);
+    dual_key(t, w, a, b, tweak(s.g, c, d), z)
+}
+
+// Row 2c+d: the gate's token for its value, sealed. x is the gate's zero token.
+fn row(t: &[u8; 256], w: &[u8; 176], s: Site, x: Block, c: Colour, d: Colour) -> Block
+    requires { ⌜ IsSBox (now t) ⌝ }
+    requires { ⌜ now w ≡ keyExpansion fixedKey ⌝ }
+    requires { ⌜ (c .0 ≤ 1) × (d .0 ≤ 1) ⌝ }
+    ensures { λ r. ⌜ r .bytes ≡ rowAt dualKey (site s) (x .bytes) (c .0) (d .0) ⌝ }
+{
+    let v = value_at(s, c, d);
+    seal(t, w, s, c, d, x.xor(times(s.r, v.0)))
+}
+
+// Scheme 1: the zero token is AES under the seed of block g, and there are four rows, of one call of π each.
+pub fn garble_gax(t: &[u8; 256], w: &[u8; 176], s: Site) -> GarbledGate
+    requires { ⌜ IsSBox (now t) ⌝ }
+    requires { ⌜ now w ≡ keyExpansion fixedKey ⌝ }
+    ensures { λ r. ⌜ GarbledIs (gax dualKey) (site s) r ⌝ }
+{
+    let zero = s.fresh;
+    let row0 = row(t, w, s, zero, Colour(0), Colour(0));
+    let row1 = row(t, w, s, zero, Colour(0), Colour(1));
+    let row2 = row(t, w, s, zero, Colour(1), Colour(0));
+    let row3 = row(t, w, s, zero, Colour(1), Colour(1));
+    GarbledGate {
+        zero,
+        row0,
+        row1,
+        row2,
+        row3,
+    }
+}
+
+// Scheme 2's zero token: the gate's token for the value at colours 0,0 is E(A,B,4g,block 0).
+fn reduced_zero(t: &[u8; 256], w: &[u8; 176], s: Site) -> Block
+    requires { ⌜ IsSBox (now t) ⌝ }
+    requires { ⌜ now w ≡ keyExpansion fixedKey ⌝ }
+    ensures { λ r. ⌜ r .bytes ≡ reducedZero dualKey (site s) ⌝ }
+{
+    let c = Colour(0);
+    let d = Colour(0);
+    let v = value_at(s, c, d);
+    seal(t, w, s, c, d, Block::of_number(0)).xor(times(s.r, v.0))
+}
+
+// Scheme 2: row 0, of colours 0,0, gives the zero token and is not stored; rows 1 to 3 are. Four calls of π.
+pub fn garble_gaxr(t: &[u8; 256], w: &[u8; 176], s: Site) -> GarbledGate
+    requires { ⌜ IsSBox (now t) ⌝ }
+    requires { ⌜ now w ≡ keyExpansion fixedKey ⌝ }
+    ensures { λ r. ⌜ GarbledIs (gaxr dualKey) (site s) r ⌝ }
+{
+    let zero = reduced_zero(t, w, s);
+    let row0 = row(t, w, s, zero, Colour(0), Colour(1));
+    let row1 = row(t, w, s, zero, Colour(1), Colour(0));
+    let row2 = row(t, w, s, zero, Colour(1), Colour(1));
+    GarbledGate {
+        zero,
+        row0,
+        row1,
+        row2,
+        row3: Block::of_number(0),
+    }
+}
+
+// The number 2c+d of the row that the tokens held open, by their colours.
+pub fn row_index(a: Block, b: Block) -> usize
+    ensures { λ r. ⌜ (r ≡ 2 * colour (a .bytes) + colour (b .bytes)) × (r ≤ 3) ⌝ }
+{
+    let c = a.colour();
+    let d = b.colour();
+    2 * (c.0 as usize) + (d.0 as usize)
+}
+
+// The gate's token, from a row and the tokens held on its operands: one call of π.
+pub fn open_row(t: &[u8; 256], w: &[u8; 176], g: Wire, a: Block, b: Block, row: Block) -> Block
+    requires { ⌜ IsSBox (now t) ⌝ }
+    requires { ⌜ now w ≡ keyExpansion fixedKey ⌝ }
+    ensures { λ r. ⌜ r .bytes ≡ dualKey (a .bytes) (b .bytes) (4 * g .0 + 2 * colour (a .bytes) + colour (b .bytes)) (row .bytes) ⌝ }
+{
+    dual_key(t, w, a, b, tweak(g, a.colour(), b.colour()), row)
+}

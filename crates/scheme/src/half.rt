@@ -1,0 +1,107 @@
+// Half-gates (01, Scheme 3). A charged gate is two half-gates: the generator's, whose row is G, and the evaluator's, whose row is E.
+use crate::GarbledGate;
+use crate::Site;
+use crate::cipher::hash;
+use crate::cipher::times;
+use block::Block;
+use model::Truth;
+use model::Wire;
+ghost use mathlib.Core.Path.{_≡_};
+ghost use Prim.Native.Nat.{_+_, _*_, _-_, _≤_};
+ghost use Rattle.model.specs.Aes.{IsSBox, keyExpansion, fixedKey, _⊕_, times};
+ghost use Rattle.model.specs.Circuit.{charged, kindOf};
+ghost use Rattle.model.specs.Tokens.{colour};
+ghost use Rattle.model.specs.HalfGates.{hash, joined, half};
+ghost use Rattle.scheme.specs.Garbled.{site, GarbledIs, HalfIs};
+
+// One half-gate: the hash of its token, which the gate's zero token needs again, and its row.
+struct HalfGate {
+    hashed: Block,
+    row: Block,
+}
+
+// x ⊕ (1-u)R. Of the pair u, v and its own value, α, β and γ are 1-u, 1-v and 1 less that value: so A, B and X of the gate end.
+fn offset_unless(x: Block, r: Block, u: Truth) -> Block
+    requires { ⌜ u .0 ≤ 1 ⌝ }
+    ensures { λ a. ⌜ a .bytes ≡ x .bytes ⊕ times (1 - u .0) (r .bytes) ⌝ }
+{
+    x.xor(times(r, 1 - u.0))
+}
+
+// The row H(x,i) ⊕ H(x⊕R,i) ⊕ z: two calls of π.
+fn half_gate(t: &[u8; 256], w: &[u8; 176], r: Block, x: Block, i: u64, z: Block) -> HalfGate
+    requires { ⌜ IsSBox (now t) ⌝ }
+    requires { ⌜ now w ≡ keyExpansion fixedKey ⌝ }
+    ensures { λ h. ⌜ HalfIs (r .bytes) (x .bytes) i (z .bytes) h ⌝ }
+{
+    let hashed = hash(t, w, x, i);
+    let other = hash(t, w, x.xor(r), i);
+    let row = hashed.xor(other.xor(z));
+    HalfGate { hashed, row }
+}
+
+// H(A,j) ⊕ sG ⊕ H(B,k) ⊕ t(E⊕A), from the rows G and E, the tokens A and B of colours s and t, and their hashes.
+fn join(ha: Block, hb: Block, g: Block, e: Block, a: Block, b: Block) -> Block
+    ensures { λ x. ⌜ x .bytes ≡ ha .bytes ⊕ times (colour (a .bytes)) (g .bytes) ⊕ hb .bytes ⊕ times (colour (b .bytes)) (e .bytes ⊕ a .bytes) ⌝ }
+{
+    let s = a.colour();
+    let t = b.colour();
+    ha.xor(times(g, s.0).xor(hb.xor(times(e.xor(a), t.0))))
+}
+
+// Scheme 3: the rows G and E, by four calls of π. The pair u, v of truth values has a value of its own, own.
+pub fn garble_half(
+    t: &[u8; 256],
+    w: &[u8; 176],
+    s: Site,
+    u: Truth,
+    v: Truth,
+    own: Truth,
+) -> GarbledGate
+    requires { ⌜ IsSBox (now t) ⌝ }
+    requires { ⌜ now w ≡ keyExpansion fixedKey ⌝ }
+    requires { ⌜ kindOf (s .code) ≡ charged (u .0) (v .0) (own .0) ⌝ }
+    ensures { λ r. ⌜ GarbledIs (half hash) (site s) r ⌝ }
+{
+    let r = s.r;
+    let xa = s.xa;
+    let a = offset_unless(xa, r, u);
+    let b = offset_unless(s.xb, r, v);
+    let j = 2 * (s.g.0 as u64);
+    let k = j + 1;
+    let generator = half_gate(t, w, r, a, j, times(r, b.colour().0));
+    let evaluator = half_gate(t, w, r, b, k, a);
+    let row_g = generator.row;
+    let row_e = evaluator.row;
+    let x = join(generator.hashed, evaluator.hashed, row_g, row_e, a, b);
+    let zero = offset_unless(x, r, own);
+    let none = Block::of_number(0);
+    GarbledGate {
+        zero,
+        row0: row_g,
+        row1: row_e,
+        row2: none,
+        row3: none,
+    }
+}
+
+// The gate's token, from the rows G and E and the tokens held on its operands: two calls of π.
+pub fn open_half(
+    t: &[u8; 256],
+    w: &[u8; 176],
+    g: Wire,
+    rg: Block,
+    re: Block,
+    a: Block,
+    b: Block,
+) -> Block
+    requires { ⌜ IsSBox (now t) ⌝ }
+    requires { ⌜ now w ≡ keyExpansion fixedKey ⌝ }
+    ensures { λ r. ⌜ r .bytes ≡ joined hash (g .0) (rg .bytes) (re .bytes) (a .bytes) (b .bytes) ⌝ }
+{
+    let j = 2 * (g.0 as u64);
+    let k = j + 1;
+    let ha = hash(t, w, a, j);
+    let hb = hash(t, w, b, k);
+    join(ha, hb, rg, re, a, b)
+}

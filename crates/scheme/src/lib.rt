@@ -1,0 +1,69 @@
+// One gate, garbled and opened, by each of the three schemes (01, Tokens and Scheme 1 to Scheme 3).
+// Whatever enciphers is lent the S-box t and the schedule w of π's fixed key.
+mod cipher; // the dual-key cipher, the hash, and a bit times a block
+mod free; // free gates
+mod gax; // schemes 1 and 2
+mod half; // scheme 3
+
+use block::Block;
+pub use cipher::dual_key;
+pub use cipher::hash;
+pub use cipher::times;
+pub use free::free_token;
+pub use free::free_zero;
+pub use gax::garble_gax;
+pub use gax::garble_gaxr;
+pub use gax::open_row;
+pub use gax::row_index;
+pub use half::garble_half;
+pub use half::open_half;
+use model::Truth;
+use model::Wire;
+ghost use mathlib.Core.Path.{_≡_};
+ghost use Prim.Native.Nat.{_≤_};
+ghost use Rattle.model.specs.Aes.{IsSBox, keyExpansion, fixedKey};
+ghost use Rattle.model.specs.Circuit.{charged, kindOf};
+ghost use Rattle.model.specs.Garbling.{schemeOf};
+ghost use Rattle.scheme.specs.Garbled.{site, GarbledIs};
+
+// What garbling knows at a charged gate.
+pub struct Site {
+    pub r: Block, // the seed's offset
+    pub fresh: Block, // AES under the seed of block g
+    pub g: Wire, // the gate's wire
+    pub code: u8, // its code
+    pub xa: Block, // the zero tokens of its operands
+    pub xb: Block,
+}
+
+// A charged gate, garbled: its zero token, and its rows in the material's order. A row that the scheme does not store is block 0.
+pub struct GarbledGate {
+    pub zero: Block,
+    pub row0: Block,
+    pub row1: Block,
+    pub row2: Block,
+    pub row3: Block,
+}
+
+// A charged gate, garbled by the scheme of a scheme byte. The pair u, v of truth values has a value of its own, own.
+pub fn garble_gate(
+    t: &[u8; 256],
+    w: &[u8; 176],
+    scheme: u8,
+    s: Site,
+    u: Truth,
+    v: Truth,
+    own: Truth,
+) -> GarbledGate
+    requires { ⌜ IsSBox (now t) ⌝ }
+    requires { ⌜ now w ≡ keyExpansion fixedKey ⌝ }
+    requires { ⌜ (1 ≤ scheme) × (scheme ≤ 3) ⌝ }
+    requires { ⌜ kindOf (s .code) ≡ charged (u .0) (v .0) (own .0) ⌝ }
+    ensures { λ r. ⌜ GarbledIs (schemeOf scheme) (site s) r ⌝ }
+{
+    match scheme {
+        1 => garble_gax(t, w, s),
+        2 => garble_gaxr(t, w, s),
+        _ => garble_half(t, w, s, u, v, own),
+    }
+}
