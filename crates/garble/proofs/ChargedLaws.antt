@@ -90,7 +90,7 @@ module _ (w : List ℕ) (k g : ℕ) (f : Block) (R : Block) (code : ℕ) (xa xb 
 -- ---- garble_charged
 
 -- how many rows a scheme stores
-rows-within : (k : ℕ) → (2 ≤ schemeOf k .stored) × (schemeOf k .stored ≤ 4)
+pub rows-within : (k : ℕ) → (2 ≤ schemeOf k .stored) × (schemeOf k .stored ≤ 4)
 unfolding schemeOf gax gaxr half
 rows-within k = go (eqb k 1) (eqb k 2)
   where

@@ -7,3 +7,5 @@ pub mod EncodeLaws
 pub mod EncodeIsLaws
 pub mod RecordLaws
 pub mod ChargedLaws
+pub mod OperandLaws
+pub mod StepLaws

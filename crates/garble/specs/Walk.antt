@@ -4,15 +4,17 @@ use mathlib.Core.Path.{_≡_}
 use mathlib.Core.List.{List, [], _∷_, _++_}
 use lib.ListN.{length, take}
 use Rattle.model.specs.declared.Gate.{Gate}
-use Rattle.model.specs.Bytes.{tabulate, put}
-use Rattle.model.specs.Circuit.{charged, charge, charges, kindOf, circuitOf, inputs, outputs, gates, gateAt, wires}
+use Rattle.model.specs.Bytes.{tabulate, over, put}
+use Rattle.model.specs.Circuit.{charged, charge, charges, kindOf, circuitOf, inputs, outputs, gates, gateAt, gateWire, wires}
 use Rattle.model.specs.Aes.{Block, block, cipher, keyExpansion}
 use Rattle.model.specs.Tokens.{Garbling, garblingOf, offset, inputZeros}
 use Rattle.model.specs.Scheme.{Site, Scheme}
-use Rattle.model.specs.Garbling.{schemeOf, siteOf, zeroStep}
-use Rattle.model.specs.Material.{joinBlocks, two, materialLength, recordOf}
+use Rattle.model.specs.Garbling.{schemeOf, siteOf, zeroStep, zeroTokens}
+use Rattle.model.specs.Material.{joinBlocks, two, header, recordOf, records}
+use Rattle.model.specs.Evaluation.{tokenAt}
 use Rattle.model.specs.Refusals.{fine, circuitVerdict}
 use Rattle.scheme.specs.declared.GarbledGate.{GarbledGate}
+use Rattle.garble.specs.declared.records.GateIn.{GateIn}
 
 -- the zero tokens after k gates
 unfoldable pub zerosTo : List ℕ → List ℕ → ℕ → ℕ → List Block
@@ -61,6 +63,20 @@ pub record WalkOf (c seed : List ℕ) (scheme n r : ℕ) (R : Block) (w : List �
   pub is-offset : R ≡ offset (garblingOf c seed scheme)
   pub is-schedule : w ≡ keyExpansion seed
 
+-- gate k of an accepted circuit of n inputs, and room for the tokens of all wires before it
+pub record OperandsStart (c : List ℕ) (n k : ℕ) (z : List ℕ) : Type 0 where
+  pub accepted : circuitVerdict c ≡ fine
+  pub is-n : n ≡ inputs c
+  pub more : k < gates c
+  pub room : 16 * (inputs c + gates c) ≤ length z
+
+-- it as it was read, with the tokens of its operands
+pub record GateInIs (c : List ℕ) (n k : ℕ) (z : List ℕ) (g : GateIn) : Type 0 where
+  pub is-code : g .code ≡ gateAt c k .code
+  pub is-own : g .own .0 ≡ gateWire n k
+  pub is-xa : g .xa .bytes ≡ tokenAt z (gateAt c k .a)
+  pub is-xb : g .xb .bytes ≡ tokenAt z (gateAt c k .b)
+
 -- gate k comes next, its record at `at`: m and z are the material and the zero tokens so far
 pub record StepStart (c seed : List ℕ) (scheme r k at : ℕ) (m z : List ℕ) : Type 0 where
   pub more : k < gates c
@@ -74,3 +90,16 @@ pub record StepIs (c seed : List ℕ) (scheme r k at : ℕ) (m z : List ℕ) (ne
   pub zeros-left : z′ ≡ put z (16 * (inputs c + k)) (zeroStep (garblingOf c seed scheme) (zerosTo c seed scheme k) (gateAt c k))
   pub material-left : m′ ≡ put m at (recordOf (garblingOf c seed scheme) (kindOf (gateAt c k .code)) (siteOf (garblingOf c seed scheme) (zerosTo c seed scheme k) (gateAt c k)))
   pub is-next : next ≡ at + charge (kindOf (gateAt c k .code)) * (4 + 16 * r)
+
+-- before the first gate: the header and the inputs' zero tokens stand at the front of m and z
+pub record GatesStart (c seed : List ℕ) (scheme r q : ℕ) (m z : List ℕ) : Type 0 where
+  pub is-q : q ≡ gates c
+  pub file-room : 11 + outputs c + charges (tabulate (gates c) (gateAt c)) * (4 + 16 * r) ≤ length m
+  pub wires-room : 16 * (inputs c + gates c) ≤ length z
+  pub header-front : take 9 m ≡ header (garblingOf c seed scheme)
+  pub inputs-front : take (16 * inputs c) z ≡ joinBlocks (inputZeros (garblingOf c seed scheme))
+
+-- after the last: the records follow the header, and the gates' zero tokens the inputs'
+pub record GatesIs (c seed : List ℕ) (scheme : ℕ) (m z m′ z′ : List ℕ) : Type 0 where
+  pub zeros-left : z′ ≡ over (joinBlocks (zeroTokens (garblingOf c seed scheme))) z
+  pub material-left : m′ ≡ over (header (garblingOf c seed scheme) ++ records (garblingOf c seed scheme) (circuitOf c .gates) (inputZeros (garblingOf c seed scheme))) m

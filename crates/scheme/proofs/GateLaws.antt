@@ -1,14 +1,12 @@
--- A garbled gate is what its scheme says. Assumes nothing.
-use mathlib.Core.Path.{_≡_, refl, sym, ap, _∙_}
-use Prim.Native.Nat.{ℕ, _+_, _*_, _-_, _≤_}
-use native.Mathlib.Omega.{arith}
-use borrow.Author.Tests.{eq-eqb, ne-eqb}
-use lib.Dec.{eqb}
+-- A garbled gate is what its scheme says: a law for each return of the functions that garble. Assumes nothing.
+use mathlib.Core.Path.{_≡_, refl}
+use Prim.Native.Nat.{ℕ, _+_, _*_, _-_}
+use borrow.Author.Tests.{ne-eqb}
 use Rattle.model.specs.Circuit.{charged, kindOf}
-use Rattle.model.specs.Aes.{Block, _⊕_, block, times}
+use Rattle.model.specs.Aes.{Block, _⊕_, times}
 use Rattle.model.specs.Tokens.{colour}
 use Rattle.model.specs.Gax.{dualKey, rowAt, gax}
-use Rattle.model.specs.Gaxr.{gaxr}
+use Rattle.model.specs.Gaxr.{reducedZero, gaxr}
 use Rattle.model.specs.HalfGates.{hash, halfA, halfB, rowG, rowE, joined, halfZero, half}
 use Rattle.model.specs.Garbling.{schemeOf}
 use Rattle.model.specs.Scheme as Model
@@ -18,13 +16,20 @@ use Rattle.scheme.specs.declared.GarbledGate.{GarbledGate}
 use Rattle.scheme.specs.declared.half.HalfGate.{HalfGate}
 use Rattle.scheme.specs.Garbled.{site, GarbledIs, HalfIs}
 
--- ---- GaX and GaXR: four rows, and three with the zero token that the row left out gives
+-- ---- GaX and GaXR
 module _ (s : Site) (row0 row1 row2 row3 : Blocks.Block) where
   pub gax-garbled : row0 .bytes ≡ rowAt dualKey (site s) (s .fresh .bytes) 0 0 → row1 .bytes ≡ rowAt dualKey (site s) (s .fresh .bytes) 0 1 →
       row2 .bytes ≡ rowAt dualKey (site s) (s .fresh .bytes) 1 0 → row3 .bytes ≡ rowAt dualKey (site s) (s .fresh .bytes) 1 1 →
       GarbledIs (gax dualKey) (site s) (record { zero = s .fresh; row0 = row0; row1 = row1; row2 = row2; row3 = row3 })
   unfolding gax site
   gax-garbled p q r t = record { is-zero = refl; is-rows = cc }
+
+  -- row3 is not stored
+  pub gaxr-garbled : (zero : Blocks.Block) → zero .bytes ≡ reducedZero dualKey (site s) → row0 .bytes ≡ rowAt dualKey (site s) (zero .bytes) 0 1 →
+      row1 .bytes ≡ rowAt dualKey (site s) (zero .bytes) 1 0 → row2 .bytes ≡ rowAt dualKey (site s) (zero .bytes) 1 1 →
+      GarbledIs (gaxr dualKey) (site s) (record { zero = zero; row0 = row0; row1 = row1; row2 = row2; row3 = row3 })
+  unfolding gaxr
+  gaxr-garbled zero z p q r = record { is-zero = z; is-rows = cc }
 
 -- ---- half-gates: the tokens A and B of a charged gate
 module _ (s : Site) (u v own : ℕ) (k : kindOf (s .code) ≡ charged u v own) (a b : Block)

@@ -1,6 +1,6 @@
 -- What evaluation does at a charged gate, by each scheme, as `open_row` and `open_half` do it. Assumes nothing.
 use mathlib.Core.Path.{_≡_, refl}
-use mathlib.Core.List.{List, [], _∷_}
+use mathlib.Core.List.{List, _∷_}
 use Prim.Native.Nat.{ℕ, _+_, _*_}
 use lib.ListN.{getD}
 use Rattle.model.specs.Aes.{Block, block}

@@ -20,7 +20,7 @@ struct HalfGate {
     row: Block,
 }
 
-// x ⊕ (1-u)R. Of the pair u, v and its own value, α, β and γ are 1-u, 1-v and 1 less that value: so A, B and X of the gate end.
+// x ⊕ (1-u)R. α, β and γ are 1 less u, v and the pair's own value: so this makes A of Xa and B of Xb, and adds γR to X of the gate.
 fn offset_unless(x: Block, r: Block, u: Truth) -> Block
     requires { ⌜ u .0 ≤ 1 ⌝ }
     ensures { λ a. ⌜ a .bytes ≡ x .bytes ⊕ times (1 - u .0) (r .bytes) ⌝ }

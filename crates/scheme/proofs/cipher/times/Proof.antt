@@ -30,4 +30,7 @@ returns c =
     fill-end (c .before .loop .inv) (omega arith) ∙ masked _ _ (start .pre) (search needs) (λ k. fits k .fits)
 
 pub times-spec : {M : Type 1} → statement M
-times-spec = tie.close (tie.spec Inv-loop μ-loop (λ c. search needs) loop-holds (λ c. search needs) (λ c. search needs) (λ c. search needs) (λ c. search needs) loop-again returns)
+times-spec =
+    tie.close
+    (tie.spec Inv-loop μ-loop (λ c. search needs) loop-holds (λ c. search needs) (λ c. search needs) (λ c. search needs) (λ c. search needs)
+    loop-again returns)

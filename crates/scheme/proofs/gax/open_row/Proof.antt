@@ -4,4 +4,7 @@ use Rattle.scheme.proofs.gax.open_row.Statement.{statement}
 use Rattle.scheme.proofs.gax.open_row.Tie as tie
 
 pub open-row-spec : {M : Type 1} → statement M
-open-row-spec = tie.close (tie.spec (λ c κs. search needs) (λ c κs. search needs) (λ c κs. (search colour-low, search colour-low)) (λ c κs. search needs) (λ c. cc))
+open-row-spec =
+    tie.close
+    (tie.spec (λ c κs. search needs) (λ c κs. search needs) (λ c κs. (search colour-low, search colour-low)) (λ c κs. search needs)
+    (λ c. cc))

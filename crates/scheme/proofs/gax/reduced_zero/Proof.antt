@@ -9,4 +9,6 @@ unfolding reducedZero site
 returns c = cc
 
 pub reduced-zero-spec : {M : Type 1} → statement M
-reduced-zero-spec = tie.close (tie.spec (λ c κs. search needs) (λ c κs. search needs) (λ c κs. search needs) (λ c κs. search needs) (λ c κs. search needs) returns)
+reduced-zero-spec =
+    tie.close
+    (tie.spec (λ c κs. search needs) (λ c κs. search needs) (λ c κs. search needs) (λ c κs. search needs) (λ c κs. search needs) returns)

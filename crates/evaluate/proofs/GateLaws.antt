@@ -1,0 +1,151 @@
+-- One gate, evaluated: the rows that are loaded from its record, and its token by each scheme and each kind of gate. Assumes nothing.
+use Prim.Native.Nat.{ℕ, zero, suc, _+_, _*_, _-_, _≤_, _<_}
+use native.Mathlib.Omega.{arith}
+use mathlib.Core.Path.{_≡_, refl, sym, ap, ap₂, _∙_}
+use mathlib.Core.List.{List, [], _∷_}
+use borrow.Author.Tests.{ne-eqb}
+use lib.ListN.{length, getD, take, drop}
+use lib.Seq.{drop-drop}
+use Rattle.model.specs.declared.Kind as Kinds
+use Rattle.model.specs.declared.Truth.{Truth}
+use Rattle.model.specs.Circuit.{Kind, charged, free, refused, kindOf, charge, value}
+use Rattle.model.specs.Aes.{Block, block}
+use Rattle.model.specs.Tokens.{colour, freeToken}
+use Rattle.model.specs.Gax.{dualKey, openRow, gax}
+use Rattle.model.specs.Gaxr.{gaxr}
+use Rattle.model.specs.HalfGates.{hash, joined, half}
+use Rattle.model.specs.Garbling.{schemeOf}
+use Rattle.model.specs.Material.{rowsStored}
+use Rattle.model.specs.Evaluation.{cut, openAt}
+use Rattle.model.proofs.Bits.{Bit, b0, b1}
+use Rattle.model.proofs.Blocks.{cut-at}
+use Rattle.model.proofs.Codes.{Means, code-means}
+use Rattle.model.proofs.Schemes.{rows-stored}
+use Rattle.block.specs.declared.Block as Blocks
+use Rattle.circuit.specs.Answers.{meaning}
+use Rattle.evaluate.specs.Gate.{RowRoom, RecordRoom, GateRoom, OpenedIs}
+
+-- row j of k rows that start at an index
+row-at : (k j first : ℕ) (s : List ℕ) → j < k → take 16 (drop (first + 16 * j) s) ≡ getD (cut k (drop first s)) j (block 0)
+row-at k j first s h = sym (cut-at k j (drop first s) h ∙ ap (take 16) (drop-drop (16 * j) first s))
+
+-- ---- reduced_row
+
+kept : (first i : ℕ) (s : List ℕ) → i ≤ 3 → (i ≡ 0 → ⊥) → take 16 (drop (first + 16 * (i - 1)) s) ≡ getD (block 0 ∷ cut 3 (drop first s)) i (block 0)
+kept first zero s l h = absurd (h refl)
+kept first (suc j) s l h = let e : suc j - 1 ≡ j = omega arith in rw e (row-at 3 j first s (omega arith))
+
+module _ (first i : ℕ) (s : List ℕ) (x : Block) where
+  pub row-left-out : i ≡ 0 → x ≡ block 0 → x ≡ getD (block 0 ∷ cut 3 (drop first s)) i (block 0)
+  row-left-out e f = rw e f
+
+  pub row-kept : RowRoom first i s → (i ≡ 0 → ⊥) → x ≡ take 16 (drop (first + 16 * (i - 1)) s) → x ≡ getD (block 0 ∷ cut 3 (drop first s)) i (block 0)
+  row-kept r h f = f ∙ kept first i s (r .number) h
+
+pub ruleset row-cases = (row-left-out, row-kept)
+
+-- ---- open_charged
+module _ (scheme at : ℕ) (s : List ℕ) (room : RecordRoom scheme at s) where
+  module _ (e : scheme ≡ 1) where
+    is-gax : schemeOf scheme ≡ gax dualKey
+    unfolding schemeOf
+    is-gax = rw e
+
+    pub gax-room : (i : ℕ) → i ≤ 3 → at + 4 + 16 * i + 16 ≤ length s
+    unfolding gax
+    gax-room i h = let r = rw is-gax at (room .room) in omega arith
+
+    pub gax-opens : (g i : ℕ) (a b row x : Block) → i ≡ 2 * colour a + colour b → i ≤ 3 → row ≡ take 16 (drop (at + 4 + 16 * i) s)
+        → x ≡ dualKey a b (4 * g + 2 * colour a + colour b) row
+        → x ≡ schemeOf scheme .opened g (cut (schemeOf scheme .stored) (drop 4 (drop at s))) a b
+    unfolding gax openRow
+    gax-opens g i a b row x is-i h is-row is-x =
+        rw (is-gax, drop-drop 4 at s, ← is-i, ← row-at 4 i (at + 4) s (omega arith), ← is-row) is-x
+
+  module _ (e : scheme ≡ 2) where
+    is-gaxr : schemeOf scheme ≡ gaxr dualKey
+    unfolding schemeOf
+    is-gaxr = rw e
+
+    pub gaxr-room : (i : ℕ) → i ≤ 3 → RowRoom (at + 4) i s
+    unfolding gaxr
+    gaxr-room i h = let r = rw is-gaxr at (room .room) in record { number = h; room = omega arith }
+
+    pub gaxr-opens : (g i : ℕ) (a b row x : Block) → i ≡ 2 * colour a + colour b → row ≡ getD (block 0 ∷ cut 3 (drop (at + 4) s)) i (block 0)
+        → x ≡ dualKey a b (4 * g + 2 * colour a + colour b) row
+        → x ≡ schemeOf scheme .opened g (cut (schemeOf scheme .stored) (drop 4 (drop at s))) a b
+    unfolding gaxr openRow
+    gaxr-opens g i a b row x is-i is-row is-x = rw (is-gaxr, drop-drop 4 at s, ← is-i, ← is-row) is-x
+
+  module _ (p : scheme ≡ 1 → ⊥) (q : scheme ≡ 2 → ⊥) where
+    is-half : schemeOf scheme ≡ half hash
+    unfolding schemeOf
+    is-half = simp (ne-eqb _ _ p, ne-eqb _ _ q)
+
+    pub half-room-g : at + 4 + 16 ≤ length s
+    unfolding half
+    half-room-g = let r = rw is-half at (room .room) in omega arith
+
+    pub half-room-e : at + 4 + 16 + 16 ≤ length s
+    unfolding half
+    half-room-e = let r = rw is-half at (room .room) in omega arith
+
+    pub half-opens : (g : ℕ) (a b rg re x : Block) → rg ≡ take 16 (drop (at + 4) s) → re ≡ take 16 (drop (at + 4 + 16) s)
+        → x ≡ joined hash g rg re a b
+        → x ≡ schemeOf scheme .opened g (cut (schemeOf scheme .stored) (drop 4 (drop at s))) a b
+    unfolding half cut
+    half-opens g a b rg re x is-g is-e is-x = rw (is-half, drop-drop 4 at s, drop-drop 16 (at + 4) s, ← is-g, ← is-e) is-x
+
+pub ruleset charged-rooms = (gax-room, gaxr-room, half-room-g, half-room-e)
+
+pub ruleset charged-opens = (gax-opens, gaxr-opens, half-opens)
+
+-- ---- open_gate: k is its kind
+
+low : {x : ℕ} → Bit x → x ≤ 1
+low b0 = omega arith
+low b1 = omega arith
+
+module _ (scheme code : ℕ) (k : Kinds.Kind) (is-k : meaning k ≡ kindOf code) where
+  module _ (u v own : Truth) (e : k ≡ Kinds.Kind.Charged u v own) where
+    is-charged : kindOf code ≡ charged (u .0) (v .0) (own .0)
+    is-charged = sym (rw e at is-k)
+
+    pub charged-room : (at : ℕ) (s : List ℕ) → GateRoom scheme code at s → RecordRoom scheme at s
+    charged-room at s r = let h = rw is-charged at (r .room) in record { low = r .low; high = r .high; room = omega arith }
+
+    pub charged-opened : (at : ℕ) (s : List ℕ) → GateRoom scheme code at s → (g rows : ℕ) (a b : Block) (token : Blocks.Block)
+        → token .bytes ≡ schemeOf scheme .opened g (cut (schemeOf scheme .stored) (drop 4 (drop at s))) a b → rows ≡ rowsStored scheme
+        → OpenedIs scheme g code a b s at (record { token = token; next = at + 4 + 16 * rows })
+    unfolding openAt
+    charged-opened at s r g rows a b token is-token is-rows = record {
+      is-token = rw is-charged is-token;
+      is-next = rw (is-charged, rows-stored scheme (r .low) (r .high), ← is-rows) (omega arith);
+    }
+
+  module _ (p q c : ℕ) (e : k ≡ Kinds.Kind.Free p q c) where
+    is-free : kindOf code ≡ free p q c
+    is-free = sym (rw e at is-k)
+
+    table : Means (value code) (free p q c)
+    table = rw is-free at (code-means code)
+
+    pub free-p : p ≤ 1
+    free-p = low (table .bit-p)
+
+    pub free-q : q ≤ 1
+    free-q = low (table .bit-q)
+
+    pub free-opened : (at : ℕ) (s : List ℕ) (g : ℕ) (a b : Block) (token : Blocks.Block) → token .bytes ≡ freeToken p q a b
+        → OpenedIs scheme g code a b s at (record { token = token; next = at })
+    unfolding openAt
+    free-opened at s g a b token is-token = record { is-token = rw is-free is-token; is-next = rw is-free (omega arith) }
+
+  pub refused-opened : k ≡ Kinds.Kind.Refused → (at : ℕ) (s : List ℕ) (g : ℕ) (a b : Block) (token : Blocks.Block) → token .bytes ≡ block 0
+      → OpenedIs scheme g code a b s at (record { token = token; next = at })
+  unfolding openAt
+  refused-opened e at s g a b token is-token =
+      let f : kindOf code ≡ refused = sym (rw e at is-k) in
+      record { is-token = rw f is-token; is-next = rw f (omega arith) }
+
+pub ruleset gate-opens = (charged-opened, free-opened, refused-opened)

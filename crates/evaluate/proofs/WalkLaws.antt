@@ -1,0 +1,208 @@
+-- The walk over the gates: one gate's step, and the invariant of the loop. Assumes nothing.
+use Prim.Native.Nat.{ℕ, zero, suc, _+_, _*_, _-_, _≤_, _<_}
+use native.Mathlib.Nat.{add-mul, mul-le-mul-right}
+use native.Mathlib.Numerals.{add-one}
+use native.Mathlib.Omega.{arith}
+use mathlib.Core.Path.{_≡_, refl, sym, ap, _∙_}
+use mathlib.Core.List.{List, [], _∷_, _++_}
+use lib.ListN.{length, getD, take, drop, take-append-drop}
+use lib.Seq.{drop-drop, length-take-le}
+use mir.Syntax.{w16}
+use mir.Val.{Fits}
+use Rattle.model.specs.declared.Gate.{Gate}
+use Rattle.model.specs.Bytes.{tabulate, over, put}
+use Rattle.model.specs.Circuit.{circuitOf, inputs, outputs, gates, gateAt, gateWire, kindOf, charge, charges, wire}
+use Rattle.model.specs.Aes.{Block, block}
+use Rattle.model.specs.Scheme.{Scheme}
+use Rattle.model.specs.Garbling.{schemeOf}
+use Rattle.model.specs.Material.{joinBlocks, materialLength}
+use Rattle.model.specs.Evaluation.{cut, openAt, openStep, run, evaluate, tokenAt}
+use Rattle.model.proofs.Accepted.{HeaderHolds, GateHolds, accepted-header, accepted-gate}
+use Rattle.model.proofs.Lists.{tabulate-snoc, tabulate-length}
+use Rattle.model.proofs.Buffers.{over-put, put-length}
+use Rattle.model.proofs.Blocks.{Blocks, blocks-length, join-length, join-snoc, cut-blocks, cut-take, join-cut, token-at-front}
+use Rattle.model.proofs.Circuits.{charges-snoc, charges-among}
+use Rattle.model.proofs.Gates.{recordLength, open-at-wide}
+use Rattle.model.proofs.Lengths.{run-blocks}
+use Rattle.model.proofs.OneMore.{run-snoc}
+use Rattle.model.proofs.Schemes.{scheme-sound, rows-stored}
+use Rattle.evaluate.specs.declared.gate.Opened.{Opened}
+use Rattle.evaluate.specs.Gate.{GateRoom, OpenedIs}
+use Rattle.evaluate.specs.Walk.{StepStart, StepIs, WalkStart}
+
+-- ---- evaluate_step
+module _ (scheme : ℕ) (c : List ℕ) (n k : ℕ) (s : List ℕ) (at : ℕ) (d : List ℕ) (start : StepStart scheme c n k s at d) where
+  in-circuit : HeaderHolds c
+  in-circuit = accepted-header c (start .accepted)
+
+  pub step-record : 8 + 7 * k + 7 ≤ length c
+  step-record = omega (arith, in-circuit .whole, start .more)
+
+  pub step-small : k < 65536
+  step-small = omega (arith, in-circuit .sizes .sum, start .more)
+
+  pub step-own : Fits w16 (n + k + 1)
+  step-own = omega (arith, in-circuit .sizes .sum, start .more, start .is-n)
+
+  operands : GateHolds (gateWire (inputs c) k) (gateAt c k)
+  operands = accepted-gate c k (start .accepted) (start .more)
+
+  -- gate k as it was read
+  module _ (g : Gate) (is-g : g ≡ gateAt c k) where
+    pub step-low-a : 1 ≤ g .a
+    step-low-a = rw is-g (operands .a-low)
+
+    order : g .a < g .b
+    order = rw is-g (operands .order)
+
+    high : g .b < gateWire n k
+    high = rw (is-g, start .is-n) (operands .b-high)
+
+    pub step-low-b : 1 ≤ g .b
+    step-low-b = omega (arith, order)
+
+    pub step-load-a : 16 * (g .a - 1) + 16 ≤ length d
+    step-load-a = omega (arith, step-low-a, order, high, start .token-room)
+
+    pub step-load-b : 16 * (g .b - 1) + 16 ≤ length d
+    step-load-b = omega (arith, order, high, start .token-room)
+
+    pub step-gate : GateRoom scheme (g .code) at s
+    step-gate = rw is-g (start .record-room)
+
+    pub step-done : (A B : Block) → A ≡ take 16 (drop (16 * (g .a - 1)) d) → B ≡ take 16 (drop (16 * (g .b - 1)) d)
+        → (x : Opened) → OpenedIs scheme (n + k + 1) (g .code) A B s at x → (d′ : List ℕ) → d′ ≡ put d (16 * (n + k)) (x .token .bytes)
+        → StepIs scheme c n k s at d (x .next) d′
+    unfolding tokenAt
+    step-done A B is-A is-B x is-x d′ is-d = record {
+      token-left = is-d ∙ rw (is-x .is-token, is-A, is-B, is-g);
+      is-next = is-x .is-next ∙ rw is-g;
+    }
+
+pub ruleset step-cases = (step-record, step-small, step-own, step-low-a, step-low-b, step-load-a, step-load-b, step-gate)
+
+-- ---- evaluate_gates
+
+-- the scheme of the material
+abbrev S : List ℕ → Scheme
+S s = schemeOf (getD s 2 0)
+
+-- the tokens after k gates, from those of the inputs
+pub tokensTo : List ℕ → List ℕ → List Block → ℕ → List Block
+tokensTo c s ts k = run (S s) (tabulate k (gateAt c)) (drop 9 s) ts
+
+-- where the record of gate k stands, or would stand
+pub recordStart : List ℕ → List ℕ → ℕ → ℕ
+recordStart c s k = 9 + charges (tabulate k (gateAt c)) * recordLength (S s)
+
+tokens-blocks : (c s : List ℕ) (k : ℕ) {n : ℕ} {ts : List Block} → Blocks n ts → Blocks (n + k) (tokensTo c s ts k)
+unfolding tokensTo
+tokens-blocks c s k {n} r =
+    rw (tabulate-length k (gateAt c)) at (run-blocks (S s) (scheme-sound (getD s 2 0)) (tabulate k (gateAt c)) (drop 9 s) r)
+
+tokens-more : (c s : List ℕ) (ts : List Block) (k : ℕ)
+    → tokensTo c s ts (suc k) ≡ tokensTo c s ts k ++ (openStep (S s) (drop (recordStart c s k) s) (tokensTo c s ts k) (gateAt c k) ∷ [])
+unfolding tokensTo recordStart
+tokens-more c s ts k =
+    rw (tabulate-snoc k (gateAt c), run-snoc, drop-drop (charges (tabulate k (gateAt c)) * recordLength (S s)) 9 s)
+
+start-more : (c s : List ℕ) (k : ℕ) → recordStart c s (suc k) ≡ recordStart c s k + charge (kindOf (gateAt c k .code)) * recordLength (S s)
+unfolding recordStart
+start-more c s k = rw (tabulate-snoc k (gateAt c), charges-snoc, add-mul) (omega arith)
+
+-- the first n blocks of a buffer stand at its front
+front : (n : ℕ) (o : List ℕ) → 16 * n ≤ length o → o ≡ over (joinBlocks (cut n o)) o
+unfolding over
+front n o h =
+    let l : length (take (16 * n) o) ≡ 16 * n = length-take-le (16 * n) o h in
+    let e : joinBlocks (cut n o) ≡ take (16 * n) o = rw (cut-take n (16 * n) o (omega arith)) at (join-cut n (take (16 * n) o) l) in
+    rw (e, l) (sym (take-append-drop (16 * n) o))
+
+-- k blocks xs at the front, and one more
+over-block : {k : ℕ} {xs : List Block} (r : Blocks k xs) (x : Block) (o : List ℕ) → length x ≡ 16 → 16 * k + 16 ≤ length o
+    → put (over (joinBlocks xs) o) (16 * k) x ≡ over (joinBlocks (xs ++ (x ∷ []))) o
+over-block {k} {xs} r x o w h = over-put (joinBlocks xs) o x (16 * k) (join-length r) (omega arith) ∙ ap (λ (l : List ℕ). over l o) (sym (join-snoc xs x))
+
+-- d is the buffer after k gates of q, and o at the start, whose first n blocks are the inputs' tokens
+pub record Walking (c s : List ℕ) (n q : ℕ) (o : List ℕ) (k at : ℕ) (d : List ℕ) : Type 0 where
+  pub within : k ≤ q
+  pub same-length : length d ≡ length o
+  pub is-at : at ≡ recordStart c s k
+  pub so-far : d ≡ over (joinBlocks (tokensTo c s (cut n o) k)) o
+
+module _ (c s : List ℕ) (n q : ℕ) (o : List ℕ) (start : WalkStart c s n q o) where
+  pub walk-scheme : 2 < length s
+  unfolding materialLength
+  walk-scheme = omega (arith, start .whole)
+
+  pub walk-start : Walking c s n q o 0 9 o
+  unfolding tokensTo run recordStart charges
+  walk-start = record {
+    within = omega arith;
+    same-length = refl;
+    is-at = omega arith;
+    so-far = front n o (omega (arith, start .room));
+  }
+
+  module _ (k at : ℕ) (d : List ℕ) (inv : Walking c s n q o k at d) where
+    pub walk-end : q ≤ k → d ≡ over (joinBlocks (evaluate (circuitOf c) (cut n o) s)) o
+    unfolding evaluate circuitOf tokensTo
+    walk-end h =
+        let w = inv .within in
+        let e : k ≡ gates c = omega (arith, start .is-q) in
+        inv .so-far ∙ rw e
+
+    module _ (more : k < q) where
+      room-at : at + charge (kindOf (gateAt c k .code)) * recordLength (S s) ≤ length s
+      unfolding recordStart materialLength circuitOf
+      room-at =
+          let h : k < gates c = omega (arith, start .is-q) in
+          let m = mul-le-mul-right (recordLength (S s)) (charges-among (gateAt c) k (gates c) h) in
+          let w = rw (← rows-stored (getD s 2 0) (start .scheme-low) (start .scheme-high)) at (start .whole) in
+          omega (arith, rw add-mul at m, inv .is-at)
+
+      pub walk-step : StepStart (getD s 2 0) c n k s at d
+      walk-step = record {
+        accepted = start .accepted;
+        is-n = start .is-n;
+        more = omega (arith, start .is-q);
+        record-room = record { low = start .scheme-low; high = start .scheme-high; room = room-at };
+        token-room = omega (arith, start .room, inv .same-length);
+      }
+
+      held : Blocks (n + k) (tokensTo c s (cut n o) k)
+      held = tokens-blocks c s k (cut-blocks n o (omega (arith, start .room)))
+
+      operands-held : GateHolds (gateWire (inputs c) k) (gateAt c k)
+      operands-held = accepted-gate c k (start .accepted) (omega (arith, start .is-q))
+
+      token-held : (w : ℕ) → 1 ≤ w → w ≤ n + k → tokenAt d w ≡ wire (block 0) (tokensTo c s (cut n o) k) w
+      unfolding over
+      token-held w h l = rw (inv .so-far) (token-at-front held w h l _)
+
+      token-next : openAt (S s) (kindOf (gateAt c k .code)) (gateWire n k) (drop at s) (tokenAt d (gateAt c k .a)) (tokenAt d (gateAt c k .b))
+          ≡ openStep (S s) (drop (recordStart c s k) s) (tokensTo c s (cut n o) k) (gateAt c k)
+      unfolding openStep
+      token-next =
+          let a = operands-held in
+          let own : gateWire n k ≡ suc (length (tokensTo c s (cut n o) k)) = omega (arith, blocks-length held) in
+          rw (
+            token-held (gateAt c k .a) (a .a-low) (omega (arith, a .order, a .b-high, start .is-n)),
+            token-held (gateAt c k .b) (omega (arith, a .a-low, a .order)) (omega (arith, a .b-high, start .is-n)),
+            own,
+            inv .is-at,
+          )
+
+      pub walk-turn : (next : ℕ) (d′ : List ℕ) → StepIs (getD s 2 0) c n k s at d next d′ → Walking c s n q o (k + 1) next d′
+      walk-turn next d′ step =
+          let x : Block = openStep (S s) (drop (recordStart c s k) s) (tokensTo c s (cut n o) k) (gateAt c k) in
+          let wide : length x ≡ 16 = unfold openStep in (open-at-wide (S s) (scheme-sound (getD s 2 0)) _ _ _ _ _) in
+          let left : d′ ≡ put d (16 * (n + k)) x = rw token-next at (step .token-left) in
+          record {
+            within = omega arith;
+            same-length = rw left (put-length d (16 * (n + k)) x (omega (arith, inv .same-length, start .room)) ∙ inv .same-length);
+            is-at = rw (add-one, start-more) (rw (inv .is-at) at (step .is-next));
+            so-far = rw (add-one, tokens-more) (left ∙ rw (inv .so-far) (over-block held x o wide (omega (arith, start .room))));
+          }
+
+pub ruleset walk-turns = (walk-scheme, walk-start, walk-end, walk-step, walk-turn)

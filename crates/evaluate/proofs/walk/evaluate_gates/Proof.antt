@@ -1,0 +1,18 @@
+use Prim.Native.Nat.{_-_}
+use borrow.Author.Needs.{needs}
+use Rattle.evaluate.proofs.WalkLaws.{Walking, walk-turns}
+use Rattle.evaluate.proofs.walk.evaluate_gates.Statement.{statement}
+use Rattle.evaluate.proofs.walk.evaluate_gates.Tie as tie
+
+abbrev Inv-loop : tie.InvT-loop
+Inv-loop t w circuit n q material wires₀ scheme at₀ k₀ wires at k = Walking circuit material n q wires₀ k at wires
+
+abbrev μ-loop : tie.MeasureT-loop
+μ-loop t w circuit n q material wires₀ scheme at₀ k₀ wires at k = q - k
+
+pub evaluate-gates-spec : {M : Type 1} → statement M
+evaluate-gates-spec =
+    tie.close
+    (tie.spec Inv-loop μ-loop (λ c. search walk-turns) (λ c. search walk-turns)
+    (λ c κs. (search needs, (search needs, search walk-turns))) (λ c. search needs)
+    (λ c. search needs) (λ c. search walk-turns) (λ c. search needs) (λ c. search walk-turns))

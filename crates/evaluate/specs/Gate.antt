@@ -1,0 +1,32 @@
+-- One gate, evaluated: the room that its record has in the material s, and what is left.
+use Prim.Native.Nat.{ℕ, _+_, _*_, _≤_}
+use mathlib.Core.Path.{_≡_}
+use mathlib.Core.List.{List}
+use lib.ListN.{length, drop}
+use Rattle.model.specs.Circuit.{kindOf, charge}
+use Rattle.model.specs.Aes.{Block}
+use Rattle.model.specs.Garbling.{schemeOf}
+use Rattle.model.specs.Evaluation.{openAt}
+use Rattle.evaluate.specs.declared.gate.Opened.{Opened}
+
+-- room for rows 1 to 3 of scheme 2, from an index on; i is one of them, or 0
+pub record RowRoom (first i : ℕ) (s : List ℕ) : Type 0 where
+  pub number : i ≤ 3
+  pub room : first + 48 ≤ length s
+
+-- room for a record of a scheme at an index
+pub record RecordRoom (scheme at : ℕ) (s : List ℕ) : Type 0 where
+  pub low : 1 ≤ scheme
+  pub high : scheme ≤ 3
+  pub room : at + (4 + 16 * schemeOf scheme .stored) ≤ length s
+
+-- the same where a gate of this code is charged; a free gate has no record
+pub record GateRoom (scheme code at : ℕ) (s : List ℕ) : Type 0 where
+  pub low : 1 ≤ scheme
+  pub high : scheme ≤ 3
+  pub room : at + charge (kindOf code) * (4 + 16 * schemeOf scheme .stored) ≤ length s
+
+-- r is the token of the gate of wire number g, from the tokens A and B, and the place of the next record
+pub record OpenedIs (scheme g code : ℕ) (A B : Block) (s : List ℕ) (at : ℕ) (r : Opened) : Type 0 where
+  pub is-token : r .token .bytes ≡ openAt (schemeOf scheme) (kindOf code) g (drop at s) A B
+  pub is-next : r .next ≡ at + charge (kindOf code) * (4 + 16 * schemeOf scheme .stored)

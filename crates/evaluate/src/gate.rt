@@ -1,0 +1,103 @@
+// One gate, evaluated: its token, from the tokens held on its operands (01, Tokens and Scheme 1 to Scheme 3).
+ghost use mathlib.Core.Path.{_≡_};
+ghost use mathlib.Core.List.{_∷_};
+ghost use lib.ListN.{getD, drop};
+ghost use Rattle.model.specs.Aes.{IsSBox, keyExpansion, fixedKey, block};
+ghost use Rattle.model.specs.Garbling.{schemeOf};
+ghost use Rattle.model.specs.Evaluation.{cut};
+ghost use Rattle.evaluate.specs.Gate.{RowRoom, RecordRoom, GateRoom, OpenedIs};
+use block::Block;
+use block::load;
+use circuit::code::code_kind;
+use material::rows_stored;
+use model::Kind;
+use model::Wire;
+use scheme::free_token;
+use scheme::open_half;
+use scheme::open_row;
+use scheme::row_index;
+
+// A gate's token, and where the next row record of the material stands.
+pub struct Opened {
+    pub token: Block,
+    pub next: usize,
+}
+
+// Row i of scheme 2, whose rows 1 to 3 start at an index: row 0 is not stored, and block 0 is taken for it.
+fn reduced_row(material: &[u8], first: usize, i: usize) -> Block
+    requires { ⌜ RowRoom first i (now material) ⌝ }
+    ensures { λ r. ⌜ r .bytes ≡ getD (block 0 ∷ cut 3 (drop first (now (material .entry)))) i (block 0) ⌝ }
+{
+    if i == 0 {
+        Block::of_number(0)
+    } else {
+        load(material, first + 16 * (i - 1))
+    }
+}
+
+// The token of charged gate g, whose record stands at an index. Schemes 1 and 2 load the one row that the colours point at.
+fn open_charged(
+    t: &[u8; 256],
+    w: &[u8; 176],
+    scheme: u8,
+    g: Wire,
+    a: Block,
+    b: Block,
+    material: &[u8],
+    at: usize,
+) -> Block
+    requires { ⌜ IsSBox (now t) ⌝ }
+    requires { ⌜ now w ≡ keyExpansion fixedKey ⌝ }
+    requires { ⌜ RecordRoom scheme at (now material) ⌝ }
+    ensures { λ r. ⌜ r .bytes ≡ schemeOf scheme .opened (g .0) (cut (schemeOf scheme .stored) (drop 4 (drop at (now (material .entry))))) (a .bytes) (b .bytes) ⌝ }
+{
+    let first = at + 4;
+    match scheme {
+        1 => open_row(t, w, g, a, b, load(material, first + 16 * row_index(a, b))),
+        2 => open_row(t, w, g, a, b, reduced_row(material, first, row_index(a, b))),
+        _ => open_half(
+            t,
+            w,
+            g,
+            load(material, first),
+            load(material, first + 16),
+            a,
+            b,
+        ),
+    }
+}
+
+// The token of gate g of a code, from the tokens a and b. Where the gate is charged, its record stands at an index, and the
+// next record after it; a free gate has none.
+pub fn open_gate(
+    t: &[u8; 256],
+    w: &[u8; 176],
+    scheme: u8,
+    g: Wire,
+    code: u8,
+    a: Block,
+    b: Block,
+    material: &[u8],
+    at: usize,
+) -> Opened
+    requires { ⌜ IsSBox (now t) ⌝ }
+    requires { ⌜ now w ≡ keyExpansion fixedKey ⌝ }
+    requires { ⌜ GateRoom scheme code at (now material) ⌝ }
+    ensures { λ r. ⌜ OpenedIs scheme (g .0) code (a .bytes) (b .bytes) (now (material .entry)) at r ⌝ }
+{
+    match code_kind(code) {
+        Kind::Charged(_, _, _) => {
+            let token = open_charged(t, w, scheme, g, a, b, material, at);
+            let next = at + 4 + 16 * rows_stored(scheme);
+            Opened { token, next }
+        }
+        Kind::Free { p, q, c: _ } => {
+            let token = free_token(p, q, a, b);
+            Opened { token, next: at }
+        }
+        Kind::Refused => Opened {
+            token: Block::of_number(0),
+            next: at,
+        },
+    }
+}

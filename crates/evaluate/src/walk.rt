@@ -1,0 +1,65 @@
+// The walk over the gates (01, Operations, evaluate): the tokens of all wires, in the buffer that they are read from.
+ghost use mathlib.Core.Path.{_≡_};
+ghost use Rattle.model.specs.Bytes.{over};
+ghost use Rattle.model.specs.Aes.{IsSBox, keyExpansion, fixedKey};
+ghost use Rattle.model.specs.Circuit.{circuitOf};
+ghost use Rattle.model.specs.Material.{joinBlocks};
+ghost use Rattle.model.specs.Evaluation.{cut, evaluate};
+ghost use Rattle.evaluate.specs.Walk.{StepStart, StepIs, WalkStart};
+use crate::gate::open_gate;
+use block::load;
+use block::store;
+use circuit::gates::gate_at;
+use model::Wire;
+
+// Gate k, from 0, of a circuit of n inputs: its token is written after those of the wires before it. `at` is where the next row
+// record stands, and the result where it stands after this gate.
+fn evaluate_step(
+    t: &[u8; 256],
+    w: &[u8; 176],
+    scheme: u8,
+    circuit: &[u8],
+    n: usize,
+    k: usize,
+    material: &[u8],
+    at: usize,
+    wires: &mut [u8],
+) -> usize
+    requires { ⌜ IsSBox (now t) ⌝ }
+    requires { ⌜ now w ≡ keyExpansion fixedKey ⌝ }
+    requires { ⌜ StepStart scheme (now circuit) n k (now material) at (now wires) ⌝ }
+    ensures { λ next. ⌜ StepIs scheme (now (circuit .entry)) n k (now (material .entry)) at (now (wires .entry)) next (now (wires .exit)) ⌝ }
+{
+    let place = 16 * (n + k);
+    let own = Wire((n + k + 1) as u16);
+    let g = gate_at(circuit, k);
+    let a = load(wires, 16 * (g.a as usize - 1));
+    let b = load(wires, 16 * (g.b as usize - 1));
+    let x = open_gate(t, w, scheme, own, g.code, a, b, material, at);
+    store(wires, place, x.token);
+    x.next
+}
+
+// The tokens of the gates, written after the inputs' tokens, which stand at the front of the buffer.
+pub fn evaluate_gates(
+    t: &[u8; 256],
+    w: &[u8; 176],
+    circuit: &[u8],
+    n: usize,
+    q: usize,
+    material: &[u8],
+    wires: &mut [u8],
+)
+    requires { ⌜ IsSBox (now t) ⌝ }
+    requires { ⌜ now w ≡ keyExpansion fixedKey ⌝ }
+    requires { ⌜ WalkStart (now circuit) (now material) n q (now wires) ⌝ }
+    ensures { λ _. ⌜ now (wires .exit) ≡ over (joinBlocks (evaluate (circuitOf (now (circuit .entry))) (cut n (now (wires .entry))) (now (material .entry)))) (now (wires .entry)) ⌝ }
+{
+    let scheme = material[2];
+    let mut at: usize = 9;
+    let mut k: usize = 0;
+    while k < q {
+        at = evaluate_step(t, w, scheme, circuit, n, k, material, at, wires);
+        k += 1;
+    }
+}

@@ -1,0 +1,168 @@
+-- One gate of the walk: what it starts from, by its kind, and what it leaves. Assumes nothing.
+use Prim.Native.Nat.{ℕ, suc, _+_, _*_, _-_, _≤_, _<_}
+use native.Mathlib.Numerals.{add-one}
+use native.Mathlib.Nat.{one-mul, zero-mul, add-mul, add-zero, mul-le-mul, mul-le-mul-right}
+use native.Mathlib.Omega.{arith}
+use mathlib.Core.Path.{_≡_, refl, sym, ap, ap₂, _∙_}
+use mathlib.Core.List.{List, [], _∷_, _++_}
+use lib.ListN.{length, take, drop, take-append-drop}
+use Rattle.model.specs.declared.Gate.{Gate}
+use Rattle.model.specs.declared.Truth.{Truth}
+use Rattle.model.specs.declared.Kind as Kinds
+use Rattle.model.specs.Bytes.{tabulate, put}
+use Rattle.model.specs.Circuit.{value, Kind, charged, free, refused, kindOf, charge, charges, circuitOf, inputs, outputs, gates, gateAt, gateWire, wire, wires}
+use Rattle.model.specs.Aes.{Block, block, cipher, keyExpansion, aes}
+use Rattle.model.specs.Tokens.{Garbling, garblingOf, seedBlock, offset, inputZeros, freeZero}
+use Rattle.model.specs.Scheme.{Site}
+use Rattle.model.specs.Garbling.{schemeOf, siteOf, zeroAt, zeroStep}
+use Rattle.model.specs.Material.{joinBlocks, recordOf, two}
+use Rattle.model.specs.Evaluation.{tokenAt}
+use Rattle.model.proofs.Lists.{tabulate-length}
+use Rattle.model.proofs.Circuits.{charges-le, charges-among}
+use Rattle.model.proofs.Buffers.{put-none}
+use Rattle.model.proofs.Codes.{Used, used-charged, used-free, FreeTable, Means, code-means}
+use Rattle.model.proofs.Bits.{Bit, b0, b1}
+use Rattle.model.proofs.Blocks.{Blocks, blocks-length, join-at}
+use Rattle.model.proofs.Lengths.{input-zeros-blocks, zeros-blocks}
+use Rattle.model.proofs.Accepted.{GateHolds, accepted-header, accepted-gate}
+use Rattle.circuit.specs.Answers.{meaning}
+use Rattle.garble.specs.Walk.{zerosTo, siteAt, WalkOf, OperandsStart, GateInIs, StepStart, StepIs, ChargedStart, ChargedIs}
+use Rattle.garble.specs.declared.records.GateIn.{GateIn}
+use Rattle.garble.proofs.ChargedLaws.{rows-within}
+
+bit-low : {x : ℕ} → Bit x → x ≤ 1
+bit-low b0 = omega arith
+bit-low b1 = omega arith
+
+not-refused : (k : Kind) → Used k → k ≡ refused → ⊥
+not-refused _ used-charged e = let z : _≡_ {A = ℕ} 0 1 = cc in omega arith
+not-refused _ used-free e = let z : _≡_ {A = ℕ} 0 1 = cc in omega arith
+
+-- p, q and c of a free code are bits
+module _ (code p q c : ℕ) (e : kindOf code ≡ free p q c) where
+  table : FreeTable (value code) p q c
+  table = rw e at (code-means code)
+
+  pub free-p : p ≤ 1
+  free-p = bit-low (table .bit-p)
+
+  pub free-q : q ≤ 1
+  free-q = bit-low (table .bit-q)
+
+  pub free-c : c ≤ 1
+  free-c = bit-low (table .bit-c)
+
+module _ (c seed : List ℕ) (scheme n r : ℕ) (R : Block) (w : List ℕ) (walk : WalkOf c seed scheme n r R w) where
+  γ : Garbling
+  γ = garblingOf c seed scheme
+
+  -- the zero tokens of the wires before gate k
+  zeros-many : (k : ℕ) → Blocks (inputs c + k) (zerosTo c seed scheme k)
+  unfolding zerosTo circuitOf
+  zeros-many k = rw tabulate-length at (zeros-blocks (garblingOf c seed scheme) (tabulate k (gateAt c)) (input-zeros-blocks (garblingOf c seed scheme)))
+
+  module _ (k at : ℕ) (m z : List ℕ) (start : StepStart c seed scheme r k at m z) where
+    pub step-operands : OperandsStart c n k z
+    step-operands = record { accepted = walk .accepted; is-n = walk .is-n; more = start .more; room = start .wires-room }
+
+    -- no place of a record overflows
+    pub step-small : at + 4 + 16 * r ≤ 5000000
+    step-small =
+        let l = rows-within scheme in
+        let a : charges (tabulate k (gateAt c)) ≤ 65535 = omega (arith, charges-le (tabulate k (gateAt c)), tabulate-length k (gateAt c), start .more, accepted-header c (walk .accepted) .sizes .sum) in
+        let b : 4 + 16 * r ≤ 68 = omega (arith, walk .is-rows, l .1) in
+        omega (arith, start .is-at, mul-le-mul a b)
+
+    holds : GateHolds (gateWire (inputs c) k) (gateAt c k)
+    holds = accepted-gate c k (walk .accepted) (start .more)
+
+    -- a token in the buffer is that of its wire
+    token : (a : ℕ) → 1 ≤ a → a < gateWire (inputs c) k → tokenAt z a ≡ wire (block 0) (zerosTo c seed scheme k) a
+    unfolding tokenAt
+    token a h l =
+        rw (← take-append-drop (16 * (inputs c + k)) z, start .so-far)
+        (join-at (zeros-many k) (a - 1) (omega arith) (drop (16 * (inputs c + k)) z))
+
+    -- what was read is what garbling knows at the gate
+    module _ (g : GateIn) (is-g : GateInIs c n k z g) where
+      xa-is : g .xa .bytes ≡ wire (block 0) (zerosTo c seed scheme k) (gateAt c k .a)
+      xa-is = is-g .is-xa ∙ token (gateAt c k .a) (holds .a-low) (omega (arith, holds .order, holds .b-high))
+
+      xb-is : g .xb .bytes ≡ wire (block 0) (zerosTo c seed scheme k) (gateAt c k .b)
+      xb-is = is-g .is-xb ∙ token (gateAt c k .b) (omega (arith, holds .a-low, holds .order)) (holds .b-high)
+
+      own-is : g .own .0 ≡ suc (length (zerosTo c seed scheme k))
+      own-is = is-g .is-own ∙ omega (arith, blocks-length (zeros-many k), walk .is-n)
+
+      site-is : siteAt w R (g .own .0) (g .code) (g .xa .bytes) (g .xb .bytes) ≡ siteOf (garblingOf c seed scheme) (zerosTo c seed scheme k) (gateAt c k)
+      unfolding siteAt siteOf seedBlock aes
+      site-is = rw (walk .is-schedule, walk .is-offset, own-is, is-g .is-code, xa-is, xb-is)
+
+      -- the kind as `code_kind` gave it
+      module _ (kind : Kinds.Kind) (is-kind : meaning kind ≡ kindOf (g .code)) where
+        code-kind : kindOf (gateAt c k .code) ≡ meaning kind
+        code-kind = sym (is-kind ∙ ap kindOf (is-g .is-code))
+
+        -- ---- a charged gate
+        module _ (u v x : Truth) (e : kind ≡ Kinds.Kind.Charged u v x) where
+          charged-is : kindOf (gateAt c k .code) ≡ charged (u .0) (v .0) (x .0)
+          charged-is = code-kind ∙ ap meaning e
+
+          one-more : charges (tabulate k (gateAt c)) + 1 ≤ charges (tabulate (gates c) (gateAt c))
+          one-more = let h = charges-among (gateAt c) k (gates c) (start .more) in rw charged-is at h
+
+          -- its record fits
+          record-fits : at + 4 + 16 * r ≤ length m
+          record-fits =
+              let p = charges (tabulate k (gateAt c)) in
+              let q = charges (tabulate (gates c) (gateAt c)) in
+              let l : (p + 1) * (4 + 16 * r) ≤ q * (4 + 16 * r) = mul-le-mul-right (4 + 16 * r) one-more in
+              let e : (p + 1) * (4 + 16 * r) ≡ p * (4 + 16 * r) + (4 + 16 * r) = add-mul p 1 (4 + 16 * r) ∙ ap (λ (y : ℕ). p * (4 + 16 * r) + y) (one-mul (4 + 16 * r)) in
+              omega (arith, l, e, start .is-at, start .file-room)
+
+          pub step-charged-start : ChargedStart scheme r (g .code) (u .0) (v .0) (x .0) m at z (16 * (n + k))
+          step-charged-start = record {
+            scheme-low = walk .scheme-low;
+            scheme-high = walk .scheme-high;
+            is-stored = walk .is-rows;
+            is-charged = ap kindOf (is-g .is-code) ∙ charged-is;
+            record-room = record-fits;
+            slot-room = omega (arith, start .more, start .wires-room, walk .is-n)
+          }
+
+          pub step-charged : (m′ z′ : List ℕ)
+              → ChargedIs scheme (siteAt w R (g .own .0) (g .code) (g .xa .bytes) (g .xb .bytes)) m at z (16 * (n + k)) m′ z′
+              → StepIs c seed scheme r k at m z (at + 4 + 16 * r) m′ z′
+          step-charged m′ z′ done = record {
+            zeros-left = done .zeros-left ∙ rw (walk .is-n, site-is) (unfold zeroStep zeroAt in (rw charged-is));
+            material-left = done .material-left ∙ rw site-is (unfold recordOf in (rw charged-is));
+            is-next = rw (charged-is, one-mul) (omega arith)
+          }
+
+        -- ---- a free gate
+        module _ (p q d : ℕ) (e : kind ≡ Kinds.Kind.Free p q d) where
+          free-is : kindOf (gateAt c k .code) ≡ free p q d
+          free-is = code-kind ∙ ap meaning e
+
+          pub step-free-p : p ≤ 1
+          step-free-p = free-p _ _ _ _ free-is
+
+          pub step-free-q : q ≤ 1
+          step-free-q = free-q _ _ _ _ free-is
+
+          pub step-free-c : d ≤ 1
+          step-free-c = free-c _ _ _ _ free-is
+
+          pub step-slot : 16 * (n + k) + 16 ≤ length z
+          step-slot = omega (arith, start .more, start .wires-room, walk .is-n)
+
+          pub step-free : (x z′ : List ℕ) → x ≡ freeZero p q d R (g .xa .bytes) (g .xb .bytes) → z′ ≡ put z (16 * (n + k)) x → StepIs c seed scheme r k at m z at m z′
+          step-free x z′ is-x is-z = record {
+            zeros-left = is-z ∙ rw (walk .is-n, is-x) (unfold zeroStep zeroAt siteOf in (rw (free-is, walk .is-offset, xa-is, xb-is)));
+            material-left = put-none m at ∙ unfold recordOf in (rw free-is);
+            is-next = rw (free-is, zero-mul) (sym (add-zero at))
+          }
+
+        -- ---- no other gate is accepted
+        pub step-refused : kind ≡ Kinds.Kind.Refused → StepIs c seed scheme r k at m z at m z
+        step-refused e = absurd (not-refused _ (holds .used) (code-kind ∙ ap meaning e))

@@ -1,0 +1,94 @@
+// The walk over the gates: each gets its zero token, and a charged one its record (01, Scheme 1 to 3 and Material).
+ghost use mathlib.Core.Path.{_≡_};
+ghost use Rattle.model.specs.Aes.{IsSBox, keyExpansion, fixedKey};
+ghost use Rattle.garble.specs.Walk.{OperandsStart, GateInIs, WalkOf, StepStart, StepIs, GatesStart, GatesIs};
+use crate::records::GateIn;
+use crate::records::Plan;
+use crate::records::garble_charged;
+use block::load;
+use block::store;
+use circuit::code::code_kind;
+use circuit::gates::gate_at;
+use model::Kind;
+use model::Wire;
+use scheme::free_zero;
+
+// Gate k, from 0, with the zero tokens of its operands.
+fn read_operands(circuit: &[u8], n: usize, k: usize, zeros: &[u8]) -> GateIn
+    requires { ⌜ OperandsStart (now circuit) n k (now zeros) ⌝ }
+    ensures { λ r. ⌜ GateInIs (now (circuit .entry)) n k (now (zeros .entry)) r ⌝ }
+{
+    let g = gate_at(circuit, k);
+    let a = 16 * (g.a as usize - 1);
+    let b = 16 * (g.b as usize - 1);
+    let xa = load(zeros, a);
+    let xb = load(zeros, b);
+    GateIn {
+        code: g.code,
+        own: Wire((n + k + 1) as u16),
+        xa,
+        xb,
+    }
+}
+
+// One gate: what it adds to the zeros and to the material, at a place; answers the place of the next record.
+// The seed is lent for the contract alone: ws is its schedule.
+pub fn garble_step(
+    t: &[u8; 256],
+    w: &[u8; 176],
+    ws: &[u8; 176],
+    seed: &[u8],
+    plan: Plan,
+    circuit: &[u8],
+    k: usize,
+    material: &mut [u8],
+    at: usize,
+    zeros: &mut [u8],
+) -> usize
+    requires { ⌜ IsSBox (now t) ⌝ }
+    requires { ⌜ now w ≡ keyExpansion fixedKey ⌝ }
+    requires { ⌜ WalkOf (now circuit) (now seed) (plan .scheme) (plan .n) (plan .stored) (plan .r .bytes) (now ws) ⌝ }
+    requires { ⌜ StepStart (now circuit) (now seed) (plan .scheme) (plan .stored) k at (now material) (now zeros) ⌝ }
+    ensures { λ r. ⌜ StepIs (now (circuit .entry)) (now (seed .entry)) (plan .scheme) (plan .stored) k at (now (material .entry)) (now (zeros .entry)) r (now (material .exit)) (now (zeros .exit)) ⌝ }
+{
+    let n = plan.n;
+    let g = read_operands(circuit, n, k, zeros);
+    let slot = 16 * (n + k);
+    match code_kind(g.code) {
+        Kind::Charged(u, v, own) => {
+            garble_charged(t, w, ws, plan, g, u, v, own, material, at, zeros, slot);
+            at + 4 + 16 * plan.stored
+        }
+        Kind::Free { p, q, c } => {
+            store(zeros, slot, free_zero(p, q, c, plan.r, g.xa, g.xb));
+            at
+        }
+        Kind::Refused => at,
+    }
+}
+
+// All gates, after the inputs' zero tokens and the material's header.
+pub fn garble_gates(
+    t: &[u8; 256],
+    w: &[u8; 176],
+    ws: &[u8; 176],
+    seed: &[u8],
+    plan: Plan,
+    circuit: &[u8],
+    q: usize,
+    material: &mut [u8],
+    zeros: &mut [u8],
+)
+    requires { ⌜ IsSBox (now t) ⌝ }
+    requires { ⌜ now w ≡ keyExpansion fixedKey ⌝ }
+    requires { ⌜ WalkOf (now circuit) (now seed) (plan .scheme) (plan .n) (plan .stored) (plan .r .bytes) (now ws) ⌝ }
+    requires { ⌜ GatesStart (now circuit) (now seed) (plan .scheme) (plan .stored) q (now material) (now zeros) ⌝ }
+    ensures { λ _. ⌜ GatesIs (now (circuit .entry)) (now (seed .entry)) (plan .scheme) (now (material .entry)) (now (zeros .entry)) (now (material .exit)) (now (zeros .exit)) ⌝ }
+{
+    let mut k: usize = 0;
+    let mut at: usize = 9;
+    while k < q {
+        at = garble_step(t, w, ws, seed, plan, circuit, k, material, at, zeros);
+        k += 1;
+    }
+}
