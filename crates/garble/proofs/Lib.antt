@@ -9,3 +9,4 @@ pub mod RecordLaws
 pub mod ChargedLaws
 pub mod OperandLaws
 pub mod StepLaws
+pub mod WalkLaws

@@ -57,7 +57,7 @@ module _ (c seed : List ℕ) (scheme n r : ℕ) (R : Block) (w : List ℕ) (walk
   γ = garblingOf c seed scheme
 
   -- the zero tokens of the wires before gate k
-  zeros-many : (k : ℕ) → Blocks (inputs c + k) (zerosTo c seed scheme k)
+  pub zeros-many : (k : ℕ) → Blocks (inputs c + k) (zerosTo c seed scheme k)
   unfolding zerosTo circuitOf
   zeros-many k = rw tabulate-length at (zeros-blocks (garblingOf c seed scheme) (tabulate k (gateAt c)) (input-zeros-blocks (garblingOf c seed scheme)))
 

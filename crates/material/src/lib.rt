@@ -1,8 +1,21 @@
-// The material file (01, Material).
+// The material file (01, Material): its lengths, its refusals 12 to 18, and the way from one of its records to the next.
 ghost use mathlib.Core.Path.{_≡_};
 ghost use Prim.Native.Nat.{_≤_};
+ghost use Rattle.model.specs.Circuit.{circuitOf};
 ghost use Rattle.model.specs.Material.{rowsStored, materialLength};
+ghost use Rattle.model.specs.Refusals.{materialVerdict};
+ghost use Rattle.model.specs.Operations.{ranOf};
+ghost use Rattle.material.specs.Answers.{Accepted};
+use crate::file::check_file;
+use crate::last::check_last;
+use crate::records::check_records;
+use model::Ran;
+use model::Sizes;
 
+pub mod file;
+pub mod last;
+pub mod marks;
+pub mod records;
 pub mod writers;
 
 // The rows of a charged gate, by the scheme byte.
@@ -24,4 +37,22 @@ pub fn material_length(scheme: u8, m: usize, p: usize) -> usize
 {
     let r = rows_stored(scheme);
     11 + m + p * (4 + 16 * r)
+}
+
+// Whether a material is well-formed for an accepted circuit of these sizes, or the first of refusals 12 to 18.
+pub fn check_material(circuit: &[u8], z: Sizes, material: &[u8]) -> Ran
+    requires { ⌜ Accepted (now circuit) z ⌝ }
+    ensures { λ r. ⌜ ranOf r ≡ materialVerdict (circuitOf (now (circuit .entry))) (now (material .entry)) ⌝ }
+{
+    match check_file(material, z) {
+        Ran::Refused(f) => Ran::Refused(f),
+        Ran::Done => match check_records(circuit, z, material) {
+            Ran::Refused(f) => Ran::Refused(f),
+            Ran::Done => {
+                let m = z.m;
+                let start = material.len() - m - 2;
+                check_last(material, m, start)
+            }
+        },
+    }
 }

@@ -1,0 +1,140 @@
+-- The walk over the gates: its invariant, its turn and its end. Assumes nothing.
+use Prim.Native.Nat.{ℕ, zero, suc, _+_, _*_, _-_, _≤_, _<_}
+use native.Mathlib.Numerals.{add-one}
+use native.Mathlib.Nat.{add-zero, add-mul, mul-le-mul-right}
+use native.Mathlib.Omega.{arith}
+use mathlib.Core.Path.{_≡_, refl, sym, ap, _∙_}
+use mathlib.Core.List.{List, [], _∷_, _++_, append-assoc, append-nil}
+use lib.ListN.{length, take, drop, length-append, take-append-drop}
+use lib.Seq.{take-at}
+use Rattle.model.specs.declared.Gate.{Gate}
+use Rattle.model.specs.Bytes.{tabulate, over, put}
+use Rattle.model.specs.Circuit.{kindOf, charge, charges, circuitOf, inputs, outputs, gates, gateAt, wires}
+use Rattle.model.specs.Aes.{Block}
+use Rattle.model.specs.Tokens.{Garbling, garblingOf, inputZeros}
+use Rattle.model.specs.Garbling.{schemeOf, siteOf, zeroStep, zeroTokens}
+use Rattle.model.specs.Material.{joinBlocks, header, recordOf, records}
+use Rattle.model.proofs.Lists.{tabulate-snoc}
+use Rattle.model.proofs.Circuits.{charges-snoc, charges-among, wires-snoc}
+use Rattle.model.proofs.Buffers.{over-put, over-length, put-length}
+use Rattle.model.proofs.Blocks.{Blocks, join-length}
+use Rattle.model.proofs.Gates.{recordLength}
+use Rattle.model.proofs.Lengths.{input-zeros-blocks, zero-step-wide, header-length, record-length, records-length}
+use Rattle.model.proofs.OneMore.{records-snoc}
+use Rattle.garble.specs.Walk.{zerosTo, WalkOf, StepStart, StepIs, GatesStart, GatesIs}
+use Rattle.garble.proofs.BlockLaws.{over-block}
+use Rattle.garble.proofs.StepLaws.{zeros-many}
+
+-- the records of the first k gates
+recordsTo : List ℕ → List ℕ → ℕ → ℕ → List ℕ
+recordsTo c seed scheme k = records (garblingOf c seed scheme) (tabulate k (gateAt c)) (inputZeros (garblingOf c seed scheme))
+
+-- k gates are done: m and z were m₀ and z₀ at the start
+pub record Walking (c seed : List ℕ) (scheme r q : ℕ) (m₀ z₀ : List ℕ) (k at : ℕ) (m z : List ℕ) : Type 0 where
+  pub within : k ≤ q
+  pub is-at : at ≡ 9 + charges (tabulate k (gateAt c)) * (4 + 16 * r)
+  pub material-length : length m ≡ length m₀
+  pub zeros-length : length z ≡ length z₀
+  material : m ≡ over (header (garblingOf c seed scheme) ++ recordsTo c seed scheme k) m₀
+  zeros : z ≡ over (joinBlocks (zerosTo c seed scheme k)) z₀
+
+module _ (c seed : List ℕ) (scheme n r : ℕ) (R : Block) (w : List ℕ) (walk : WalkOf c seed scheme n r R w)
+    (q : ℕ) (m₀ z₀ : List ℕ) (start : GatesStart c seed scheme r q m₀ z₀) where
+  -- a buffer whose front is p
+  front : (p o : List ℕ) (k : ℕ) → length p ≡ k → take k o ≡ p → o ≡ over p o
+  unfolding over
+  front p o k l e = rw l (sym (ap (λ (x : List ℕ). x ++ drop k o) (sym e) ∙ take-append-drop k o))
+
+  pub walk-start : Walking c seed scheme r q m₀ z₀ 0 9 m₀ z₀
+  unfolding recordsTo records zerosTo wires charges circuitOf
+  walk-start = record {
+    within = omega arith;
+    is-at = omega arith;
+    material-length = refl;
+    zeros-length = refl;
+    material = rw append-nil (front (header (garblingOf c seed scheme)) m₀ 9 (header-length (garblingOf c seed scheme)) (start .header-front));
+    zeros =
+        front (joinBlocks (inputZeros (garblingOf c seed scheme))) z₀ (16 * inputs c)
+        (join-length (input-zeros-blocks (garblingOf c seed scheme))) (start .inputs-front)
+  }
+
+  module _ (k at : ℕ) (m z : List ℕ) (inv : Walking c seed scheme r q m₀ z₀ k at m z) where
+    pub walk-end : q ≤ k → GatesIs c seed scheme m₀ z₀ m z
+    unfolding recordsTo zerosTo zeroTokens circuitOf
+    walk-end h =
+        let e : k ≡ gates c = omega (arith, inv .within, start .is-q) in
+        record { zeros-left = inv .zeros ∙ rw e; material-left = inv .material ∙ rw e }
+
+    module _ (more : k < q) where
+      -- the bytes of the material so far
+      so-long : length (header (garblingOf c seed scheme) ++ recordsTo c seed scheme k) ≡ at
+      unfolding recordsTo
+      so-long =
+          length-append (header (garblingOf c seed scheme)) _
+          ∙ rw (header-length (garblingOf c seed scheme), records-length (garblingOf c seed scheme) (tabulate k (gateAt c)) (inputZeros (garblingOf c seed scheme)), inv .is-at, walk .is-rows)
+
+      below : k < gates c
+      below = omega (arith, start .is-q)
+
+      pub walk-step : StepStart c seed scheme r k at m z
+      unfolding over
+      walk-step = record {
+        more = below;
+        is-at = inv .is-at;
+        file-room = omega (arith, start .file-room, inv .material-length);
+        wires-room = omega (arith, start .wires-room, inv .zeros-length);
+        so-far = rw (inv .zeros) (take-at (joinBlocks (zerosTo c seed scheme k)) _ (16 * (inputs c + k)) (join-length (zeros-many c seed scheme n r R w walk k)))
+      }
+
+      -- the record of gate k fits
+      record-room : at + charge (kindOf (gateAt c k .code)) * (4 + 16 * r) ≤ length m₀
+      record-room =
+          let p = charges (tabulate k (gateAt c)) in
+          let d = charge (kindOf (gateAt c k .code)) in
+          let l : (p + d) * (4 + 16 * r) ≤ charges (tabulate (gates c) (gateAt c)) * (4 + 16 * r) = mul-le-mul-right (4 + 16 * r) (charges-among (gateAt c) k (gates c) below) in
+          omega (arith, l, add-mul p d (4 + 16 * r), inv .is-at, start .file-room)
+
+      module _ (next : ℕ) (m′ z′ : List ℕ) (done : StepIs c seed scheme r k at m z next m′ z′) where
+        piece : List ℕ
+        piece = recordOf (garblingOf c seed scheme) (kindOf (gateAt c k .code)) (siteOf (garblingOf c seed scheme) (zerosTo c seed scheme k) (gateAt c k))
+
+        piece-long : length piece ≡ charge (kindOf (gateAt c k .code)) * (4 + 16 * r)
+        unfolding piece
+        piece-long = record-length (garblingOf c seed scheme) (kindOf (gateAt c k .code)) _ ∙ rw (walk .is-rows)
+
+        material-next : m′ ≡ over (header (garblingOf c seed scheme) ++ recordsTo c seed scheme (k + 1)) m₀
+        unfolding piece recordsTo zerosTo
+        material-next =
+            done .material-left
+            ∙ rw (inv .material, add-one, tabulate-snoc k (gateAt c), records-snoc (garblingOf c seed scheme) (tabulate k (gateAt c)) (gateAt c k) (inputZeros (garblingOf c seed scheme)))
+            (over-put (header (garblingOf c seed scheme) ++ recordsTo c seed scheme k) m₀ piece at so-long (omega (arith, piece-long, record-room))
+            ∙ ap (λ (l : List ℕ). over l m₀) (append-assoc (header (garblingOf c seed scheme)) (recordsTo c seed scheme k) piece))
+
+        token : Block
+        token = zeroStep (garblingOf c seed scheme) (zerosTo c seed scheme k) (gateAt c k)
+
+        token-wide : length token ≡ 16
+        unfolding token
+        token-wide = zero-step-wide (garblingOf c seed scheme) _ (gateAt c k)
+
+        zeros-next : z′ ≡ over (joinBlocks (zerosTo c seed scheme (k + 1))) z₀
+        unfolding token zerosTo
+        zeros-next =
+            done .zeros-left
+            ∙ rw (inv .zeros, add-one, tabulate-snoc k (gateAt c), wires-snoc (zeroStep (garblingOf c seed scheme)) (tabulate k (gateAt c)) (gateAt c k) (inputZeros (garblingOf c seed scheme)))
+            (over-block (zeros-many c seed scheme n r R w walk k) token z₀ token-wide (omega (arith, below, start .wires-room)))
+
+        pub walk-turn : Walking c seed scheme r q m₀ z₀ (k + 1) next m′ z′
+        unfolding piece token
+        walk-turn = record {
+          within = omega arith;
+          is-at =
+              done .is-next
+              ∙ rw (add-one, tabulate-snoc k (gateAt c), charges-snoc, add-mul, inv .is-at) (omega arith);
+          material-length =
+              ap length (done .material-left) ∙ put-length m at piece (omega (arith, piece-long, record-room, inv .material-length)) ∙ inv .material-length;
+          zeros-length =
+              ap length (done .zeros-left) ∙ put-length z (16 * (inputs c + k)) token (omega (arith, token-wide, below, start .wires-room, inv .zeros-length)) ∙ inv .zeros-length;
+          material = material-next;
+          zeros = zeros-next
+        }

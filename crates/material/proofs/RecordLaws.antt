@@ -1,0 +1,127 @@
+-- The row records: a law for each return of `next` and `pass_gate`, and the turns and ends of the way over the gates. Assumes nothing.
+use Prim.Native.Nat.{ℕ, _+_, _*_, _≤_, _<_}
+use native.Mathlib.Omega.{arith}
+use mathlib.Core.Path.{_≡_, refl, sym, ap, _∙_}
+use mathlib.Core.Bool.{Bool, true, false, not, _&&_}
+use mathlib.Core.List.{List}
+use borrow.Author.Tests.{eq-eqb, ne-eqb, not-true, not-false}
+use lib.ListN.{length, getD}
+use Rattle.model.specs.declared.Gate.{Gate}
+use Rattle.model.specs.declared.Truth.{Truth}
+use Rattle.model.specs.declared.Kind.{Kind}
+use Rattle.model.specs.declared.Sizes.{Sizes}
+use Rattle.model.specs.declared.Refusal.{Refusal}
+use Rattle.model.specs.Bytes.{be16}
+use Rattle.model.specs.Circuit.{circuitOf, gates, gateAt, codeAt, kindOf, charge, markAt}
+use Rattle.model.specs.Material.{rowsStored}
+use Rattle.model.specs.Refusals.{fine, refused, refuse, verdictOf, firstOf, isCharged, rowStart, rowRecordAt, rowVerdict}
+use Rattle.model.specs.Operations.{no, yes}
+use Rattle.model.proofs.Verdicts.{yes-given, Turned, no-turned, first-next, first-found}
+use Rattle.circuit.specs.Answers.{meaning}
+use Rattle.material.specs.declared.records.Cursor.{Cursor}
+use Rattle.material.specs.declared.records.Step.{Step}
+use Rattle.material.specs.Answers.{Filed, AtGate, stepOf, nextAnswer, gateAnswer, recordsVerdict}
+use Rattle.material.proofs.SizeLaws.{inputs-same, code-at, limits, is-n, is-q, few-wires}
+use Rattle.material.proofs.RowLaws.{row-first, row-next, row-room, file-holds}
+
+-- ---- next: the wire number and the mark as they were read
+module _ (s : List ℕ) (at rows due found : ℕ) (is-found : found ≡ be16 s (at + 2)) (b : Bool) (is-b : b ≡ markAt s at 0x47 0x54) where
+  pub next-mark : not b ≡ true → no (refused 17 due) ≡ nextAnswer s at rows due
+  unfolding rowRecordAt refuse
+  next-mark h = simp (← is-b, not-true b h)
+
+  module _ (i : not b ≡ false) where
+    pub next-wire : (found ≡ due → ⊥) → no (refused 17 due) ≡ nextAnswer s at rows due
+    unfolding rowRecordAt refuse
+    next-wire h = simp (← is-b, not-false b i, ← is-found, ne-eqb _ _ h)
+
+    pub next-fine : found ≡ due → (there : ℕ) → there ≡ at + 4 + 16 * rows → yes there ≡ nextAnswer s at rows due
+    unfolding rowRecordAt refuse
+    next-fine h there e = simp (← is-b, not-false b i, ← is-found, eq-eqb _ _ h, e)
+
+pub ruleset next-cases = (next-mark, next-wire, next-fine)
+
+-- ---- pass_gate
+module _ (c : List ℕ) (z : Sizes) (s : List ℕ) (rows k at : ℕ) (turn : AtGate c z s rows k at) where
+  inside : k < gates c
+  inside = omega (arith, turn .more, is-q c z (turn .known .circuit))
+
+  pub gate-inside : 8 + 7 * k + 7 ≤ length c
+  gate-inside = omega (arith, limits c z (turn .known .circuit) .whole, inside)
+
+  -- gate k and its kind, as they were read
+  module _ (g : Gate) (is-g : g ≡ gateAt c k) (kind : Kind) (is-kind : meaning kind ≡ kindOf (g .code)) where
+    kind-at : kindOf (codeAt (circuitOf c) k) ≡ meaning kind
+    kind-at = rw (code-at c k inside, ← is-g, is-kind)
+
+    after : rowStart (circuitOf c) s (k + 1) ≡ at + charge (meaning kind) * (4 + 16 * rows)
+    after = rw (row-next c s k inside, ← is-g, is-kind, turn .is-rows, turn .placed)
+
+    at-gate : rowVerdict (circuitOf c) s k ≡ refuse (isCharged (meaning kind) && not (rowRecordAt s at (z .n + k + 1))) 17 (z .n + k + 1)
+    unfolding rowVerdict
+    at-gate = simp (kind-at, ← turn .placed, inputs-same, is-n c z (turn .known .circuit))
+
+    -- a gate with no record
+    passed : isCharged (meaning kind) ≡ false → charge (meaning kind) ≡ 0 → yes at ≡ gateAnswer c s k
+    unfolding refuse
+    passed h i = let none : at ≡ at + 0 * (4 + 16 * rows) = omega arith in rw (at-gate, after, h, i) (ap yes none)
+
+    pub gate-free : (p q d : ℕ) → kind ≡ Kind.Free p q d → yes at ≡ gateAnswer c s k
+    gate-free p q d e = passed (rw e) (rw e)
+
+    pub gate-refused : kind ≡ Kind.Refused → yes at ≡ gateAnswer c s k
+    gate-refused e = passed (rw e) (rw e)
+
+    module _ (u v o : Truth) (e : kind ≡ Kind.Charged u v o) where
+      pub record-inside : at + 4 + 16 * rows ≤ length s
+      record-inside =
+          let one : charge (kindOf (gateAt c k .code)) ≡ 1 = rw (← is-g, ← is-kind, e) in
+          omega (arith, rw one at (row-room c s (file-holds c s (turn .known .filed) .whole) k inside), turn .placed, turn .is-rows)
+
+      pub gate-charged : (r : Step) → stepOf r ≡ nextAnswer s at rows (z .n + k + 1) → stepOf r ≡ gateAnswer c s k
+      gate-charged r is-r =
+          let one : at + 4 + 16 * rows ≡ at + 1 * (4 + 16 * rows) = omega arith in
+          is-r ∙ rw (at-gate, after, e, one)
+
+pub ruleset pass-cases = (gate-free, gate-refused, gate-charged)
+
+-- ---- check_records: of q gates k have no fault, and the next record is at the cursor
+pub record Reading (c s : List ℕ) (q k : ℕ) (here : Cursor) : Type 0 where
+  pub within : k ≤ q
+  pub no-fault : firstOf (rowVerdict (circuitOf c) s) k ≡ fine
+  pub placed : here .at ≡ rowStart (circuitOf c) s k
+
+module _ (c : List ℕ) (z : Sizes) (s : List ℕ) (known : Filed c z s) where
+  pub scheme-inside : 2 < length s
+  scheme-inside = omega (arith, file-holds c s (known .filed) .header)
+
+  pub records-start : (here : Cursor) → here .at ≡ 9 → Reading c s (z .q) 0 here
+  unfolding firstOf
+  records-start here e = record { within = omega arith; no-fault = refl; placed = e ∙ sym (row-first c s) }
+
+  module _ (k : ℕ) (here : Cursor) (inv : Reading c s (z .q) k here) where
+    pub records-end : z .q ≤ k → fine ≡ recordsVerdict c s
+    records-end h =
+        let w = inv .within in
+        let e : gates c ≡ k = omega (arith, is-q c z (known .circuit)) in
+        rw (e, inv .no-fault)
+
+    module _ (more : k < z .q) where
+      pub at-turn : (rows : ℕ) → rows ≡ rowsStored (getD s 2 0) → AtGate c z s rows k (here .at)
+      at-turn rows e =
+          record { known = known; is-rows = e; more = more; few = omega (arith, few-wires c z (known .circuit)); placed = inv .placed }
+
+      -- what was found at the gate
+      module _ (r : Step) (is-r : stepOf r ≡ gateAnswer c s k) where
+        pub turn-next : (there : Cursor) → r ≡ Step.Next there → Reading c s (z .q) (k + 1) there
+        turn-next there e =
+            let t = yes-given (rowVerdict (circuitOf c) s k) (there .at) (rowStart (circuitOf c) s (k + 1)) (rw e at is-r) in
+            record { within = omega arith; no-fault = first-next _ k (inv .no-fault) (t .is-fine); placed = t .is-result }
+
+        pub turn-fault : (f : Refusal) → r ≡ Step.Fault f → verdictOf f ≡ recordsVerdict c s
+        turn-fault f e = go (no-turned (rowVerdict (circuitOf c) s k) (verdictOf f) _ (rw e at is-r))
+          where
+            go : Turned (rowVerdict (circuitOf c) s k) (verdictOf f) → verdictOf f ≡ recordsVerdict c s
+            go t =
+                let h : k < gates c = omega (arith, is-q c z (known .circuit)) in
+                rw (first-found (rowVerdict (circuitOf c) s) k (gates c) (t .number) (t .place) (inv .no-fault) h (t .is-v), t .is-w)

@@ -1,0 +1,54 @@
+// The header and the length of a material: refusals 12 to 16 (01, Turned down, by number).
+ghost use mathlib.Core.Path.{_≡_};
+ghost use Prim.Native.Nat.{_≤_};
+ghost use lib.ListN.{length};
+ghost use Rattle.model.specs.Operations.{ranOf};
+ghost use Rattle.material.specs.Answers.{sameSizes, sizesVerdict};
+use crate::marks::mark_at;
+use crate::material_length;
+use buffer::read16;
+use model::Ran;
+use model::Refusal;
+use model::Sizes;
+
+// Whether the header's n, m and q are these.
+fn same_sizes(material: &[u8], z: Sizes) -> bool
+    requires { ⌜ 9 ≤ length (now material) ⌝ }
+    ensures { λ r. ⌜ r ≡ sameSizes z (now (material .entry)) ⌝ }
+{
+    if read16(material, 3) as usize != z.n {
+        return false;
+    }
+    if read16(material, 5) as usize != z.m {
+        return false;
+    }
+    read16(material, 7) as usize == z.q
+}
+
+// The first of refusals 12 to 16, of a material for a circuit of these sizes.
+pub fn check_file(material: &[u8], z: Sizes) -> Ran
+    requires { ⌜ (z .m ≤ 65535) × (z .p ≤ 65535) ⌝ }
+    ensures { λ r. ⌜ ranOf r ≡ sizesVerdict z (now (material .entry)) ⌝ }
+{
+    let len = material.len();
+    if len < 9 {
+        return Ran::Refused(Refusal::MaterialShort(len));
+    }
+    if !mark_at(material, 0, 0x47, 0x48) {
+        return Ran::Refused(Refusal::MaterialMark);
+    }
+    let scheme = material[2];
+    if scheme < 1 {
+        return Ran::Refused(Refusal::Scheme(scheme));
+    }
+    if 3 < scheme {
+        return Ran::Refused(Refusal::Scheme(scheme));
+    }
+    if !same_sizes(material, z) {
+        return Ran::Refused(Refusal::MaterialSizes);
+    }
+    if len != material_length(scheme, z.m, z.p) {
+        return Ran::Refused(Refusal::MaterialLength(len));
+    }
+    Ran::Done
+}

@@ -1,0 +1,28 @@
+// The last record of a material: refusal 18 (01, Material; Turned down, by number).
+ghost use mathlib.Core.Path.{_≡_};
+ghost use Prim.Native.Nat.{_+_, _≤_};
+ghost use lib.ListN.{length};
+ghost use Rattle.model.specs.Operations.{ranOf};
+ghost use Rattle.material.specs.Answers.{lastAt};
+use crate::marks::mark_at;
+use circuit::values::Bits;
+use circuit::values::search_values;
+use model::Ran;
+use model::Refusal;
+
+// Refusal 18 of the record that starts at an index: its mark is not 47 44, or one of its m bytes exceeds 1. Its start is
+// the place either way.
+pub fn check_last(material: &[u8], m: usize, start: usize) -> Ran
+    requires { ⌜ start + 2 + m ≤ length (now material) ⌝ }
+    ensures { λ r. ⌜ ranOf r ≡ lastAt (now (material .entry)) start m ⌝ }
+{
+    if !mark_at(material, start, 0x47, 0x44) {
+        return Ran::Refused(Refusal::LastRecord(start));
+    }
+    let bytes = start + 2;
+    let end = bytes + m;
+    match search_values(&material[bytes..end]) {
+        Bits::Fine => Ran::Done,
+        Bits::Fault(_) => Ran::Refused(Refusal::LastRecord(start)),
+    }
+}

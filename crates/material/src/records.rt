@@ -1,0 +1,104 @@
+// The row records of a material, from one to the next: refusal 17 (01, Material; Turned down, by number).
+ghost use mathlib.Core.Path.{_≡_};
+ghost use Prim.Native.Nat.{_+_, _*_, _≤_, _<_};
+ghost use lib.ListN.{length};
+ghost use Rattle.model.specs.Operations.{ranOf};
+ghost use Rattle.material.specs.Answers.{Filed, AtGate, stepOf, nextAnswer, gateAnswer, recordsVerdict};
+use crate::marks::mark_at;
+use crate::rows_stored;
+use buffer::read16;
+use circuit::code::code_kind;
+use circuit::gates::gate_at;
+use model::Kind;
+use model::Ran;
+use model::Refusal;
+use model::Sizes;
+use model::Wire;
+
+// A place in a material: where the next marked record starts.
+pub struct Cursor {
+    pub at: usize,
+}
+
+// What a step over the records finds: the next place, or the fault.
+pub enum Step {
+    Next(Cursor),
+    Fault(Refusal),
+}
+
+impl Cursor {
+    // The first record, past the header.
+    pub fn first() -> Cursor
+        ensures { λ r. ⌜ r .at ≡ 9 ⌝ }
+    {
+        Cursor { at: 9 }
+    }
+
+    // Past a row record: mark and wire number, 4 bytes, and its rows. The place still fits a usize.
+    pub fn past(self, rows: usize) -> Cursor
+        requires { ⌜ self .at + 4 + 16 * rows < 18446744073709551616 ⌝ }
+        ensures { λ r. ⌜ r .at ≡ self .at + 4 + 16 * rows ⌝ }
+    {
+        Cursor {
+            at: self.at + 4 + 16 * rows,
+        }
+    }
+
+    // Past the row record here, if it has the mark 47 54 and the wire number that is due.
+    pub fn next(self, material: &[u8], rows: usize, due: Wire) -> Step
+        requires { ⌜ self .at + 4 + 16 * rows ≤ length (now material) ⌝ }
+        ensures { λ r. ⌜ stepOf r ≡ nextAnswer (now (material .entry)) (self .at) rows (due .0) ⌝ }
+    {
+        let at = self.at;
+        let found = Wire(read16(material, at + 2));
+        if !mark_at(material, at, 0x47, 0x54) {
+            return Step::Fault(Refusal::RowRecord(due));
+        }
+        if found.0 == due.0 {
+            Step::Next(self.past(rows))
+        } else {
+            Step::Fault(Refusal::RowRecord(due))
+        }
+    }
+}
+
+// Gate k at its turn: a charged gate has the record here, and the next is past it; a free gate has none, and an accepted
+// circuit has no refused one.
+fn pass_gate(circuit: &[u8], z: Sizes, material: &[u8], rows: usize, k: usize, here: Cursor) -> Step
+    requires { ⌜ AtGate (now circuit) z (now material) rows k (here .at) ⌝ }
+    ensures { λ r. ⌜ stepOf r ≡ gateAnswer (now (circuit .entry)) (now (material .entry)) k ⌝ }
+{
+    let g = gate_at(circuit, k);
+    let due = Wire((z.n + k + 1) as u16);
+    match code_kind(g.code) {
+        Kind::Charged(_, _, _) => here.next(material, rows, due),
+        Kind::Free { p: _, q: _, c: _ } => Step::Next(here),
+        Kind::Refused => Step::Next(here),
+    }
+}
+
+// Refusal 17: the gates are gone through in file order, and each charged gate has the next record.
+pub fn check_records(circuit: &[u8], z: Sizes, material: &[u8]) -> Ran
+    requires { ⌜ Filed (now circuit) z (now material) ⌝ }
+    ensures { λ r. ⌜ ranOf r ≡ recordsVerdict (now (circuit .entry)) (now (material .entry)) ⌝ }
+{
+    let q = z.q;
+    let rows = rows_stored(material[2]);
+    let mut here = Cursor::first();
+    let mut k: usize = 0;
+    let found = loop {
+        if q <= k {
+            break Ran::Done;
+        }
+        match pass_gate(circuit, z, material, rows, k, here) {
+            Step::Next(there) => {
+                here = there;
+            }
+            Step::Fault(f) => {
+                break Ran::Refused(f);
+            }
+        }
+        k += 1;
+    };
+    found
+}
