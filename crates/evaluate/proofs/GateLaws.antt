@@ -44,57 +44,59 @@ module _ (first i : ℕ) (s : List ℕ) (x : Block) where
 
 pub ruleset row-cases = (row-left-out, row-kept)
 
+-- ---- the scheme of a scheme byte
+module _ (scheme : ℕ) where
+  pub is-gax : scheme ≡ 1 → schemeOf scheme ≡ gax dualKey
+  unfolding schemeOf
+  is-gax e = rw e
+
+  pub is-gaxr : scheme ≡ 2 → schemeOf scheme ≡ gaxr dualKey
+  unfolding schemeOf
+  is-gaxr e = rw e
+
+  pub is-half : (scheme ≡ 1 → ⊥) → (scheme ≡ 2 → ⊥) → schemeOf scheme ≡ half hash
+  unfolding schemeOf
+  is-half p q = simp (ne-eqb _ _ p, ne-eqb _ _ q)
+
 -- ---- open_charged
 module _ (scheme at : ℕ) (s : List ℕ) (room : RecordRoom scheme at s) where
   module _ (e : scheme ≡ 1) where
-    is-gax : schemeOf scheme ≡ gax dualKey
-    unfolding schemeOf
-    is-gax = rw e
-
     pub gax-room : (i : ℕ) → i ≤ 3 → at + 4 + 16 * i + 16 ≤ length s
     unfolding gax
-    gax-room i h = let r = rw is-gax at (room .room) in omega arith
+    gax-room i h = let r = rw (is-gax scheme e) at (room .room) in omega arith
 
     pub gax-opens : (g i : ℕ) (a b row x : Block) → i ≡ 2 * colour a + colour b → i ≤ 3 → row ≡ take 16 (drop (at + 4 + 16 * i) s)
         → x ≡ dualKey a b (4 * g + 2 * colour a + colour b) row
         → x ≡ schemeOf scheme .opened g (cut (schemeOf scheme .stored) (drop 4 (drop at s))) a b
     unfolding gax openRow
     gax-opens g i a b row x is-i h is-row is-x =
-        rw (is-gax, drop-drop 4 at s, ← is-i, ← row-at 4 i (at + 4) s (omega arith), ← is-row) is-x
+        rw (is-gax scheme e, drop-drop 4 at s, ← is-i, ← row-at 4 i (at + 4) s (omega arith), ← is-row) is-x
 
   module _ (e : scheme ≡ 2) where
-    is-gaxr : schemeOf scheme ≡ gaxr dualKey
-    unfolding schemeOf
-    is-gaxr = rw e
-
     pub gaxr-room : (i : ℕ) → i ≤ 3 → RowRoom (at + 4) i s
     unfolding gaxr
-    gaxr-room i h = let r = rw is-gaxr at (room .room) in record { number = h; room = omega arith }
+    gaxr-room i h = let r = rw (is-gaxr scheme e) at (room .room) in record { number = h; room = omega arith }
 
     pub gaxr-opens : (g i : ℕ) (a b row x : Block) → i ≡ 2 * colour a + colour b → row ≡ getD (block 0 ∷ cut 3 (drop (at + 4) s)) i (block 0)
         → x ≡ dualKey a b (4 * g + 2 * colour a + colour b) row
         → x ≡ schemeOf scheme .opened g (cut (schemeOf scheme .stored) (drop 4 (drop at s))) a b
     unfolding gaxr openRow
-    gaxr-opens g i a b row x is-i is-row is-x = rw (is-gaxr, drop-drop 4 at s, ← is-i, ← is-row) is-x
+    gaxr-opens g i a b row x is-i is-row is-x = rw (is-gaxr scheme e, drop-drop 4 at s, ← is-i, ← is-row) is-x
 
   module _ (p : scheme ≡ 1 → ⊥) (q : scheme ≡ 2 → ⊥) where
-    is-half : schemeOf scheme ≡ half hash
-    unfolding schemeOf
-    is-half = simp (ne-eqb _ _ p, ne-eqb _ _ q)
-
     pub half-room-g : at + 4 + 16 ≤ length s
     unfolding half
-    half-room-g = let r = rw is-half at (room .room) in omega arith
+    half-room-g = let r = rw (is-half scheme p q) at (room .room) in omega arith
 
     pub half-room-e : at + 4 + 16 + 16 ≤ length s
     unfolding half
-    half-room-e = let r = rw is-half at (room .room) in omega arith
+    half-room-e = let r = rw (is-half scheme p q) at (room .room) in omega arith
 
     pub half-opens : (g : ℕ) (a b rg re x : Block) → rg ≡ take 16 (drop (at + 4) s) → re ≡ take 16 (drop (at + 4 + 16) s)
         → x ≡ joined hash g rg re a b
         → x ≡ schemeOf scheme .opened g (cut (schemeOf scheme .stored) (drop 4 (drop at s))) a b
     unfolding half cut
-    half-opens g a b rg re x is-g is-e is-x = rw (is-half, drop-drop 4 at s, drop-drop 16 (at + 4) s, ← is-g, ← is-e) is-x
+    half-opens g a b rg re x is-g is-e is-x = rw (is-half scheme p q, drop-drop 4 at s, drop-drop 16 (at + 4) s, ← is-g, ← is-e) is-x
 
 pub ruleset charged-rooms = (gax-room, gaxr-room, half-room-g, half-room-e)
 
@@ -149,3 +151,19 @@ module _ (scheme code : ℕ) (k : Kinds.Kind) (is-k : meaning k ≡ kindOf code)
       record { is-token = rw f is-token; is-next = rw f (omega arith) }
 
 pub ruleset gate-opens = (charged-opened, free-opened, refused-opened)
+
+-- ---- calls_made
+module _ (scheme p : ℕ) where
+  pub calls-gax : scheme ≡ 1 → p ≡ p * schemeOf scheme .evaluateCalls
+  unfolding gax
+  calls-gax e = rw (is-gax scheme e) (omega arith)
+
+  pub calls-gaxr : scheme ≡ 2 → p ≡ p * schemeOf scheme .evaluateCalls
+  unfolding gaxr
+  calls-gaxr e = rw (is-gaxr scheme e) (omega arith)
+
+  pub calls-half : (scheme ≡ 1 → ⊥) → (scheme ≡ 2 → ⊥) → 2 * p ≡ p * schemeOf scheme .evaluateCalls
+  unfolding half
+  calls-half h l = rw (is-half scheme h l) (omega arith)
+
+pub ruleset calls-cases = (calls-gax, calls-gaxr, calls-half)

@@ -2,3 +2,6 @@
 pub mod GateLaws
 pub mod WalkLaws
 pub mod LastLaws
+pub mod ReadyLaws
+pub mod EvaluateLaws
+pub mod DecodeLaws

@@ -6,7 +6,7 @@ use native.Mathlib.Omega.{arith}
 use mathlib.Core.Path.{_≡_, refl, sym, ap, _∙_}
 use mathlib.Core.List.{List, [], _∷_, _++_}
 use lib.ListN.{length, getD, take, drop, take-append-drop}
-use lib.Seq.{drop-drop, length-take-le}
+use lib.Seq.{drop-drop, length-take-le, take-at}
 use mir.Syntax.{w16}
 use mir.Val.{Fits}
 use Rattle.model.specs.declared.Gate.{Gate}
@@ -16,10 +16,10 @@ use Rattle.model.specs.Aes.{Block, block}
 use Rattle.model.specs.Scheme.{Scheme}
 use Rattle.model.specs.Garbling.{schemeOf}
 use Rattle.model.specs.Material.{joinBlocks, materialLength}
-use Rattle.model.specs.Evaluation.{cut, openAt, openStep, run, evaluate, tokenAt}
+use Rattle.model.specs.Evaluation.{cut, openAt, openStep, run, evaluate, evaluateBytes, tokenAt}
 use Rattle.model.proofs.Accepted.{HeaderHolds, GateHolds, accepted-header, accepted-gate}
 use Rattle.model.proofs.Lists.{tabulate-snoc, tabulate-length}
-use Rattle.model.proofs.Buffers.{over-put, put-length}
+use Rattle.model.proofs.Buffers.{over-length, over-over, over-put, put-length}
 use Rattle.model.proofs.Blocks.{Blocks, blocks-length, join-length, join-snoc, cut-blocks, cut-take, join-cut, token-at-front}
 use Rattle.model.proofs.Circuits.{charges-snoc, charges-among}
 use Rattle.model.proofs.Gates.{recordLength, open-at-wide}
@@ -28,7 +28,7 @@ use Rattle.model.proofs.OneMore.{run-snoc}
 use Rattle.model.proofs.Schemes.{scheme-sound, rows-stored}
 use Rattle.evaluate.specs.declared.gate.Opened.{Opened}
 use Rattle.evaluate.specs.Gate.{GateRoom, OpenedIs}
-use Rattle.evaluate.specs.Walk.{StepStart, StepIs, WalkStart}
+use Rattle.evaluate.specs.Walk.{StepStart, StepIs, WalkStart, WiresStart}
 
 -- ---- evaluate_step
 module _ (scheme : ℕ) (c : List ℕ) (n k : ℕ) (s : List ℕ) (at : ℕ) (d : List ℕ) (start : StepStart scheme c n k s at d) where
@@ -206,3 +206,39 @@ module _ (c s : List ℕ) (n q : ℕ) (o : List ℕ) (start : WalkStart c s n q 
           }
 
 pub ruleset walk-turns = (walk-scheme, walk-start, walk-end, walk-step, walk-turn)
+
+-- ---- evaluate_wires: d is the buffer after the tokens were copied to its front
+module _ (c ts s : List ℕ) (n q : ℕ) (o : List ℕ) (start : WiresStart c ts s n q o) (d : List ℕ) (is-d : d ≡ over ts o) where
+  same : length d ≡ length o
+  same = rw is-d (over-length ts o (omega (arith, start .tokens, start .walk .room)))
+
+  pub wires-walk : WalkStart c s n q d
+  wires-walk =
+      let w = start .walk in
+      record {
+        accepted = w .accepted;
+        is-n = w .is-n;
+        is-q = w .is-q;
+        scheme-low = w .scheme-low;
+        scheme-high = w .scheme-high;
+        whole = w .whole;
+        room = rw same (w .room);
+      }
+
+  copied : cut n d ≡ cut n ts
+  unfolding over
+  copied = sym (cut-take n (16 * n) d (omega arith)) ∙ ap (cut n) (rw is-d (take-at ts _ (16 * n) (start .tokens)))
+
+  all-tokens : length (evaluateBytes (circuitOf c) ts s) ≡ 16 * (n + q)
+  unfolding evaluateBytes evaluate circuitOf tokensTo
+  all-tokens = rw (← start .walk .is-n, ← start .walk .is-q) (join-length (tokens-blocks c s q (cut-blocks n ts (omega (arith, start .tokens)))))
+
+  pub wires-done : (x : List ℕ) → x ≡ over (joinBlocks (evaluate (circuitOf c) (cut n d) s)) d → x ≡ over (evaluateBytes (circuitOf c) ts s) o
+  wires-done x is-x =
+      let e : joinBlocks (evaluate (circuitOf c) (cut n ts) s) ≡ evaluateBytes (circuitOf c) ts s =
+      unfold evaluateBytes circuitOf in (rw (start .walk .is-n)) in
+      is-x
+      ∙ rw (copied, e, is-d)
+      (over-over (evaluateBytes (circuitOf c) ts s) o ts (omega (arith, all-tokens, start .tokens)) (omega (arith, all-tokens, start .walk .room)))
+
+pub ruleset wires-cases = (wires-walk, wires-done)

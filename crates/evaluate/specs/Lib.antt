@@ -2,3 +2,4 @@
 pub mod Gate
 pub mod Walk
 pub mod Last
+pub mod Answers

@@ -35,3 +35,8 @@ pub record WalkStart (c s : List ℕ) (n q : ℕ) (o : List ℕ) : Type 0 where
   pub scheme-high : getD s 2 0 ≤ 3
   pub whole : length s ≡ materialLength (getD s 2 0) (outputs c) (charges (circuitOf c .gates))
   pub room : 16 * (n + q) ≤ length o
+
+-- the same before the tokens ts of the inputs are copied to the buffer
+pub record WiresStart (c ts s : List ℕ) (n q : ℕ) (o : List ℕ) : Type 0 where
+  pub tokens : length ts ≡ 16 * n
+  pub walk : WalkStart c s n q o

@@ -1,14 +1,19 @@
 // The walk over the gates (01, Operations, evaluate): the tokens of all wires, in the buffer that they are read from.
 ghost use mathlib.Core.Path.{_≡_};
+ghost use Prim.Native.Nat.{_*_, _≤_};
 ghost use Rattle.model.specs.Bytes.{over};
 ghost use Rattle.model.specs.Aes.{IsSBox, keyExpansion, fixedKey};
 ghost use Rattle.model.specs.Circuit.{circuitOf};
+ghost use Rattle.model.specs.Garbling.{schemeOf};
 ghost use Rattle.model.specs.Material.{joinBlocks};
-ghost use Rattle.model.specs.Evaluation.{cut, evaluate};
-ghost use Rattle.evaluate.specs.Walk.{StepStart, StepIs, WalkStart};
+ghost use Rattle.model.specs.Evaluation.{cut, evaluate, evaluateBytes};
+ghost use Rattle.evaluate.specs.Walk.{StepStart, StepIs, WalkStart, WiresStart};
 use crate::gate::open_gate;
+use aes::fixed_schedule;
+use aes::s_box;
 use block::load;
 use block::store;
+use buffer::copy_front;
 use circuit::gates::gate_at;
 use model::Wire;
 
@@ -61,5 +66,35 @@ pub fn evaluate_gates(
     while k < q {
         at = evaluate_step(t, w, scheme, circuit, n, k, material, at, wires);
         k += 1;
+    }
+}
+
+// The tokens of all wires, from those of the inputs.
+pub fn evaluate_wires(
+    circuit: &[u8],
+    n: usize,
+    q: usize,
+    tokens: &[u8],
+    material: &[u8],
+    wires: &mut [u8],
+)
+    requires { ⌜ WiresStart (now circuit) (now tokens) (now material) n q (now wires) ⌝ }
+    ensures { λ _. ⌜ now (wires .exit) ≡ over (evaluateBytes (circuitOf (now (circuit .entry))) (now (tokens .entry)) (now (material .entry))) (now (wires .entry)) ⌝ }
+{
+    let t = s_box();
+    let w = fixed_schedule();
+    copy_front(tokens, wires);
+    evaluate_gates(&t, &w, circuit, n, q, material, wires);
+}
+
+// The calls of π that p charged gates take: one each in schemes 1 and 2, two in scheme 3.
+pub fn calls_made(scheme: u8, p: usize) -> usize
+    requires { ⌜ p ≤ 65535 ⌝ }
+    ensures { λ r. ⌜ r ≡ p * schemeOf scheme .evaluateCalls ⌝ }
+{
+    match scheme {
+        1 => p,
+        2 => p,
+        _ => 2 * p,
     }
 }

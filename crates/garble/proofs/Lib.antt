@@ -10,3 +10,4 @@ pub mod ChargedLaws
 pub mod OperandLaws
 pub mod StepLaws
 pub mod WalkLaws
+pub mod LastLaws

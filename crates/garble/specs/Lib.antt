@@ -2,3 +2,4 @@
 pub mod Answers
 pub mod Written
 pub mod Walk
+pub mod Whole

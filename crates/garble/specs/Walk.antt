@@ -4,15 +4,18 @@ use mathlib.Core.Path.{_≡_}
 use mathlib.Core.List.{List, [], _∷_, _++_}
 use lib.ListN.{length, take}
 use Rattle.model.specs.declared.Gate.{Gate}
+use Rattle.model.specs.declared.Sizes.{Sizes}
 use Rattle.model.specs.Bytes.{tabulate, over, put}
 use Rattle.model.specs.Circuit.{charged, charge, charges, kindOf, circuitOf, inputs, outputs, gates, gateAt, gateWire, wires}
 use Rattle.model.specs.Aes.{Block, block, cipher, keyExpansion}
 use Rattle.model.specs.Tokens.{Garbling, garblingOf, offset, inputZeros}
 use Rattle.model.specs.Scheme.{Site, Scheme}
 use Rattle.model.specs.Garbling.{schemeOf, siteOf, zeroStep, zeroTokens}
-use Rattle.model.specs.Material.{joinBlocks, two, header, recordOf, records}
+use Rattle.model.specs.Material.{joinBlocks, two, header, recordOf, records, material}
 use Rattle.model.specs.Evaluation.{tokenAt}
 use Rattle.model.specs.Refusals.{fine, circuitVerdict}
+use Rattle.model.specs.Operations.{sizesOf}
+use Rattle.garble.specs.Written.{InputsIs}
 use Rattle.scheme.specs.declared.GarbledGate.{GarbledGate}
 use Rattle.garble.specs.declared.records.GateIn.{GateIn}
 
@@ -103,3 +106,38 @@ pub record GatesStart (c seed : List ℕ) (scheme r q : ℕ) (m z : List ℕ) : 
 pub record GatesIs (c seed : List ℕ) (scheme : ℕ) (m z m′ z′ : List ℕ) : Type 0 where
   pub zeros-left : z′ ≡ over (joinBlocks (zeroTokens (garblingOf c seed scheme))) z
   pub material-left : m′ ≡ over (header (garblingOf c seed scheme) ++ records (garblingOf c seed scheme) (circuitOf c .gates) (inputZeros (garblingOf c seed scheme))) m
+
+-- ---- the last record
+
+-- tokens of the m wires from `first` on, and room for their colours
+pub record ColoursStart (z : List ℕ) (first m : ℕ) (f : List ℕ) (at : ℕ) : Type 0 where
+  pub low : 1 ≤ first
+  pub tokens : 16 * (first + m) ≤ length z + 16
+  pub room : at + m ≤ length f
+
+-- the same with room for the record's head
+pub record LastStart (z : List ℕ) (first m : ℕ) (f : List ℕ) (at : ℕ) : Type 0 where
+  pub low : 1 ≤ first
+  pub tokens : 16 * (first + m) ≤ length z + 16
+  pub room : at + 2 + m ≤ length f
+
+-- ---- before the gates: the inputs and the header
+
+pub record FrontStart (n : ℕ) (m z o : List ℕ) : Type 0 where
+  pub header-room : 9 ≤ length m
+  pub zeros-room : 16 * n ≤ length z
+  pub ones-room : 16 * n ≤ length o
+
+pub record FrontIs (w : List ℕ) (R : Block) (scheme n outs q : ℕ) (m z o m′ z′ o′ : List ℕ) : Type 0 where
+  pub inputs-are : InputsIs w R n z o z′ o′
+  pub header-is : m′ ≡ over (0x47 ∷ 0x48 ∷ scheme ∷ two n ++ two outs ++ two q) m
+
+-- ---- the gates and the last record
+
+pub record BodyStart (c seed : List ℕ) (scheme r : ℕ) (s : Sizes) (m z : List ℕ) : Type 0 where
+  pub sizes : s ≡ sizesOf c
+  pub gates-start : GatesStart c seed scheme r (s .q) m z
+
+pub record BodyIs (c seed : List ℕ) (scheme : ℕ) (m z m′ z′ : List ℕ) : Type 0 where
+  pub zeros-left : z′ ≡ over (joinBlocks (zeroTokens (garblingOf c seed scheme))) z
+  pub material-left : m′ ≡ over (material (garblingOf c seed scheme)) m

@@ -11,10 +11,12 @@ use model::Refusal;
 use model::Wire;
 
 pub mod inputs;
+pub mod last;
 pub mod ready;
 pub mod records;
 pub mod seed;
 pub mod walk;
+pub mod whole;
 
 // The inputs' tokens for their values; or the first of refusals 1 to 7, 9, 10, 11, 19.
 pub fn encode(circuit: &[u8], values: &[u8], zeros: &[u8], ones: &[u8], tokens: &mut [u8]) -> Ran

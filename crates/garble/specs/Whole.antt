@@ -1,0 +1,29 @@
+-- A whole garbling: what it starts from, and what it leaves.
+use Prim.Native.Nat.{ℕ, _+_, _*_, _≤_}
+use mathlib.Core.Path.{_≡_}
+use mathlib.Core.List.{List}
+use lib.ListN.{length}
+use Rattle.model.specs.declared.Sizes.{Sizes}
+use Rattle.model.specs.Bytes.{over}
+use Rattle.model.specs.Circuit.{charges, circuitOf, inputs, outputs, gates}
+use Rattle.model.specs.Tokens.{garblingOf}
+use Rattle.model.specs.Garbling.{zeroTokens, inputOnes}
+use Rattle.model.specs.Material.{joinBlocks, materialLength, material}
+use Rattle.model.specs.Refusals.{fine, circuitVerdict}
+use Rattle.model.specs.Operations.{sizesOf}
+
+-- nothing refuses
+pub record WholeStart (c seed : List ℕ) (scheme : ℕ) (s : Sizes) (m z o : List ℕ) : Type 0 where
+  pub accepted : circuitVerdict c ≡ fine
+  pub sizes : s ≡ sizesOf c
+  pub seed-length : length seed ≡ 16
+  pub scheme-low : 1 ≤ scheme
+  pub scheme-high : scheme ≤ 3
+  pub file-room : materialLength scheme (outputs c) (charges (circuitOf c .gates)) ≤ length m
+  pub wires-room : 16 * (inputs c + gates c) ≤ length z
+  pub inputs-room : 16 * inputs c ≤ length o
+
+pub record WholeIs (c seed : List ℕ) (scheme : ℕ) (m z o m′ z′ o′ : List ℕ) : Type 0 where
+  pub material-left : m′ ≡ over (material (garblingOf c seed scheme)) m
+  pub zeros-left : z′ ≡ over (joinBlocks (zeroTokens (garblingOf c seed scheme))) z
+  pub ones-left : o′ ≡ over (joinBlocks (inputOnes (garblingOf c seed scheme))) o

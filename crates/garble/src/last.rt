@@ -1,0 +1,32 @@
+// The last record of the material: the colours of the outputs' zero tokens (01, Material).
+ghost use mathlib.Core.Path.{_≡_};
+ghost use mathlib.Core.List.{_∷_};
+ghost use Prim.Native.Nat.{_+_};
+ghost use Rattle.model.specs.Bytes.{tabulate, put};
+ghost use Rattle.model.specs.Tokens.{colour};
+ghost use Rattle.model.specs.Evaluation.{tokenAt};
+ghost use Rattle.garble.specs.Walk.{LastStart, ColoursStart};
+use block::load;
+use material::writers::write_last_head;
+
+// Mark 47 44 at a place, and the colours of the zero tokens of m wires, the first of them `first`, from 1.
+pub fn write_last(zeros: &[u8], first: usize, m: usize, material: &mut [u8], at: usize)
+    requires { ⌜ LastStart (now zeros) first m (now material) at ⌝ }
+    ensures { λ _. ⌜ now (material .exit) ≡ put (now (material .entry)) at (0x47 ∷ 0x44 ∷ tabulate m (λ i. colour (tokenAt (now (zeros .entry)) (first + i)))) ⌝ }
+{
+    write_last_head(material, at);
+    write_colours(zeros, first, m, material, at + 2);
+}
+
+// The colours alone.
+fn write_colours(zeros: &[u8], first: usize, m: usize, material: &mut [u8], at: usize)
+    requires { ⌜ ColoursStart (now zeros) first m (now material) at ⌝ }
+    ensures { λ _. ⌜ now (material .exit) ≡ put (now (material .entry)) at (tabulate m (λ i. colour (tokenAt (now (zeros .entry)) (first + i)))) ⌝ }
+{
+    let mut i: usize = 0;
+    while i < m {
+        let c = load(zeros, 16 * (first + i - 1)).colour();
+        material[at + i] = c.0;
+        i += 1;
+    }
+}
