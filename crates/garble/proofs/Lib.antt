@@ -11,3 +11,4 @@ pub mod OperandLaws
 pub mod StepLaws
 pub mod WalkLaws
 pub mod LastLaws
+pub mod BodyLaws

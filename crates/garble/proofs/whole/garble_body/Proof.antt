@@ -1,72 +1,42 @@
 use borrow.Author.Needs.{needs}
+use Rattle.garble.proofs.BodyLaws.{rows-fit, record-fits, records-fit, place-fits, wires-fit, outputs-among, first-fits, body-last, body-done}
 use Rattle.garble.proofs.whole.garble_body.Statement.{statement}
 use Rattle.garble.proofs.whole.garble_body.Tie as tie
-use Rattle.garble.proofs.whole.garble_body.Reads as reads
-use Rattle.garble.proofs.whole.garble_body.Lts as lts
-use Rattle.garble.proofs.last.write_last.Reads as write-last-reads
-use Rattle.garble.proofs.walk.garble_gates.Reads as garble-gates-reads
 
--- src/whole.rt:57:5
 garble-gates-requires : tie.Need-garble-gates-requires
-garble-gates-requires c κs = ?
+garble-gates-requires c κs =
+    let pre = c .before .before .before .before .before .before .pre in
+    (pre .0, (pre .1 .0, (pre .1 .1 .0, pre .1 .1 .1 .gates-start)))
 
--- src/whole.rt:58:29
 mul-at : tie.Need-mul-at
-mul-at c = ?
+mul-at c = rows-fit _ _ _ _ _ _ _ (c .before .before .before .before .before .before .before .before .before .before .before .before .pre .1 .1 .0) _ _ _ (c .before .before .before .before .before .before .before .before .before .before .before .before .pre .1 .1 .1)
 
--- src/whole.rt:58:25
 add-at : tie.Need-add-at
-add-at c = ?
+add-at c = record-fits _ _ _ _ _ _ _ (c .before .before .before .before .before .before .before .before .before .before .before .before .pre .1 .1 .0) _ _ _ (c .before .before .before .before .before .before .before .before .before .before .before .before .pre .1 .1 .1)
 
--- src/whole.rt:58:18
 mul-at-2 : tie.Need-mul-at-2
-mul-at-2 c = ?
+mul-at-2 c = records-fit _ _ _ _ _ _ _ (c .before .before .before .before .before .before .before .before .before .before .before .before .before .pre .1 .1 .0) _ _ _ (c .before .before .before .before .before .before .before .before .before .before .before .before .before .pre .1 .1 .1)
 
--- src/whole.rt:58:14
 add-at-2 : tie.Need-add-at-2
-add-at-2 c = ?
+add-at-2 c = place-fits _ _ _ _ _ _ _ (c .before .before .before .before .before .before .before .before .before .before .before .before .before .pre .1 .1 .0) _ _ _ (c .before .before .before .before .before .before .before .before .before .before .before .before .before .pre .1 .1 .1)
 
--- src/whole.rt:59:23
 add-write-last : tie.Need-add-write-last
-add-write-last c = ?
+add-write-last c = wires-fit _ _ _ _ _ _ _ (c .before .before .before .before .before .before .before .before .before .before .before .before .before .before .before .pre .1 .1 .0) _ _ _ (c .before .before .before .before .before .before .before .before .before .before .before .before .before .before .before .pre .1 .1 .1)
 
--- src/whole.rt:59:23
 sub-write-last : tie.Need-sub-write-last
-sub-write-last c = ?
+sub-write-last c = outputs-among _ _ _ _ _ _ _ (c .before .before .before .before .before .before .before .before .before .before .before .before .before .before .before .before .pre .1 .1 .0) _ _ _ (c .before .before .before .before .before .before .before .before .before .before .before .before .before .before .before .before .pre .1 .1 .1)
 
--- src/whole.rt:59:23
 add-write-last-2 : tie.Need-add-write-last-2
-add-write-last-2 c = ?
+add-write-last-2 c = first-fits _ _ _ _ _ _ _ (c .before .before .before .before .before .before .before .before .before .before .before .before .before .before .before .before .pre .1 .1 .0) _ _ _ (c .before .before .before .before .before .before .before .before .before .before .before .before .before .before .before .before .pre .1 .1 .1)
 
--- src/whole.rt:59:5
 write-last-requires : tie.Need-write-last-requires
-write-last-requires c κs = ?
+write-last-requires c κs = body-last _ _ _ _ _ _ _ (c .before .before .before .before .before .before .before .before .before .before .before .before .before .before .before .before .before .pre .1 .1 .0) _ _ _ (c .before .before .before .before .before .before .before .before .before .before .before .before .before .before .before .before .before .pre .1 .1 .1) _ _ (c .before .before .before .before .before .before .before .before .before .before .garble-gates .ensures)
 
--- src/whole.rt:40:1
-same-length : tie.Need-same-length
-same-length c = search needs
-
--- src/whole.rt:40:1
-same-length-2 : tie.Need-same-length-2
-same-length-2 c = search needs
-
--- src/whole.rt:40:1
 returns : tie.Need-returns
-returns c = ?
+returns c = body-done _ _ _ _ _ _ _ (c .before .before .before .before .before .before .before .before .before .before .before .before .before .before .before .before .before .before .before .before .pre .1 .1 .0) _ _ _ (c .before .before .before .before .before .before .before .before .before .before .before .before .before .before .before .before .before .before .before .before .pre .1 .1 .1) _ _ (c .before .before .before .before .before .before .before .before .before .before .before .before .before .garble-gates .ensures) _ (c .before .before .write-last .ensures)
 
 pub garble-body-spec : {M : Type 1} → statement M
 garble-body-spec =
     tie.close
-    (tie.spec
-    garble-gates-requires
-    mul-at
-    add-at
-    mul-at-2
-    add-at-2
-    add-write-last
-    sub-write-last
-    add-write-last-2
-    write-last-requires
-    same-length
-    same-length-2
-    returns)
+    (tie.spec garble-gates-requires mul-at add-at mul-at-2 add-at-2 add-write-last sub-write-last add-write-last-2 write-last-requires
+    (λ c. search needs) (λ c. search needs) returns)
