@@ -35,7 +35,7 @@ module _ {f : ℕ → Block} (wide : (i : ℕ) → length (f i) ≡ 16) {n : ℕ
         same-length = ap length is-d ∙ put-length d (16 * i) x (omega (arith, inv .same-length)) ∙ inv .same-length;
         so-far =
             is-d
-            ∙ rw (inv .so-far, add-one, tabulate-snoc i f, ← is-x) (over-block (from-blocks f wide 0 i) x o w (omega arith))
+            ∙ rw (inv .so-far, add-one, tabulate-snoc i f, ← is-x) (over-block (from-blocks f wide 0 i) x o w (omega arith));
       }
 
   pub fill-end : {i : ℕ} {d : List ℕ} → Filling f n o i d → i ≤ n → n ≤ i → d ≡ over (joinBlocks (tabulate n f)) o

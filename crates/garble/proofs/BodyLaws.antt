@@ -110,7 +110,7 @@ module _ (c seed : List ℕ) (scheme n r : ℕ) (R : Block) (w : List ℕ) (walk
     body-last = record {
       low = omega arith;
       tokens = omega (arith, outputs-among, zeros-same, is-n, is-q, start .gates-start .wires-room);
-      room = omega (arith, material-same, file-room)
+      room = omega (arith, material-same, file-room);
     }
 
     -- the colours shown are those of the outputs' zero tokens
@@ -139,5 +139,5 @@ module _ (c seed : List ℕ) (scheme n r : ℕ) (R : Block) (w : List ℕ) (walk
           e
           ∙ rw (last-is, done .material-left)
           (over-put so-far m (lastRecord (garblingOf c seed scheme)) (9 + s .p * (4 + 16 * r)) so-long
-          (omega (arith, file-room, ap length (sym last-is), tabulate-length (s .m) (λ i. colour (tokenAt z1 (s .n + s .q - s .m + 1 + i))))))
+          (omega (arith, file-room, ap length (sym last-is), tabulate-length (s .m) (λ i. colour (tokenAt z1 (s .n + s .q - s .m + 1 + i))))));
     }

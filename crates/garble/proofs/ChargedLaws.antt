@@ -77,7 +77,7 @@ module _ (w : List ℕ) (k g : ℕ) (f : Block) (R : Block) (code : ℕ) (xa xb 
   of-other : (k ≡ 1 → ⊥) → GarbledIs (schemeOf k) (siteAt w R g code xa xb) made
   of-other h = record {
     is-zero = is .is-zero ∙ other-zero k h f (siteAt w R g code xa xb);
-    is-rows = is .is-rows ∙ other-rows k h f (siteAt w R g code xa xb)
+    is-rows = is .is-rows ∙ other-rows k h f (siteAt w R g code xa xb);
   }
 
   gate-is : GarbledIs (schemeOf k) (siteAt w R g code xa xb) made
@@ -114,5 +114,5 @@ module _ (scheme stored code u v x : ℕ) (m : List ℕ) (at : ℕ) (z : List �
         gate-is w scheme (st .g .0) (st .fresh .bytes) (st .r .bytes) (st .code) (st .xa .bytes) (st .xb .bytes) made fresh (unfold site refreshed siteAt in is) in
         record {
           zeros-left = rw (h .is-zero) at is-z;
-          material-left = is-m ∙ unfold recordBytes siteAt in (rw (start .is-stored, h .is-rows))
+          material-left = is-m ∙ unfold recordBytes siteAt in (rw (start .is-stored, h .is-rows));
         }

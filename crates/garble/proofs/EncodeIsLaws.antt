@@ -49,7 +49,7 @@ module _ (c v zs os o : List ℕ) (r : Ready) (is-r : readyOf r ≡ encodeReady 
           bits = all-bits v (f .1);
           zeros = eqb-true _ _ (not-false _ (refuse-fine _ _ _ (d .1)));
           ones = eqb-true _ _ (not-false _ (refuse-fine _ _ _ (b .1)));
-          room = ltb-false _ _ (refuse-fine _ _ _ (a .1))
+          room = ltb-false _ _ (refuse-fine _ _ _ (a .1));
         })
 
     pub encode-done : (x : List ℕ) → x ≡ over (joinBlocks (encode v (cut (z .n) zs) (cut (z .n) os))) o → EncodeIs c v zs os o fine x

@@ -96,7 +96,7 @@ module _ (n : ℕ) (v z o t : List ℕ) (start : EncodeStart n v z o t) where
       unfolding tokenOf chosen
       encode-turn x d′ e f = record {
         within = omega arith;
-        tokens = fill-turn wide (inv .tokens) h (start .room) x d′ (e ∙ rw (cut-at n i z h, cut-at n i o h)) f
+        tokens = fill-turn wide (inv .tokens) h (start .room) x d′ (e ∙ rw (cut-at n i z h, cut-at n i o h)) f;
       }
 
 pub ruleset encode-turns = (encode-start, encode-end, encode-value, encode-token, encode-room, encode-turn)

@@ -25,7 +25,7 @@ module _ (w : List ℕ) (R : Block) (n : ℕ) (z o : List ℕ) where
   inputs-start = record {
     within = omega arith;
     zeros = fill-start (λ k. cipher-wide w _);
-    ones = fill-start (λ k. ⊕-length _ _)
+    ones = fill-start (λ k. ⊕-length _ _);
   }
 
   module _ (room : InputsRoom n z o) (i : ℕ) (z′ o′ : List ℕ) (inv : Inputs w R n z o i z′ o′) where
@@ -39,11 +39,11 @@ module _ (w : List ℕ) (R : Block) (n : ℕ) (z o : List ℕ) where
     inputs-turn h x y z″ o″ is-x is-z is-y is-o = record {
       within = omega arith;
       zeros = fill-turn (λ k. cipher-wide w _) (inv .zeros) h (room .zeros) x z″ is-x is-z;
-      ones = fill-turn (λ k. ⊕-length _ _) (inv .ones) h (room .ones) y o″ (is-y ∙ ap (λ (b : Block). b ⊕ R) is-x) is-o
+      ones = fill-turn (λ k. ⊕-length _ _) (inv .ones) h (room .ones) y o″ (is-y ∙ ap (λ (b : Block). b ⊕ R) is-x) is-o;
     }
 
     pub inputs-end : n ≤ i → InputsIs w R n z o z′ o′
     inputs-end h = record {
       zeros-left = fill-end (λ k. cipher-wide w _) (inv .zeros) (inv .within) h;
-      ones-left = fill-end (λ k. ⊕-length _ _) (inv .ones) (inv .within) h
+      ones-left = fill-end (λ k. ⊕-length _ _) (inv .ones) (inv .within) h;
     }

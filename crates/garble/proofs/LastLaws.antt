@@ -49,7 +49,7 @@ module _ (z : List ℕ) (first m : ℕ) (o : List ℕ) (at : ℕ) (start : Colou
             set-put d (at + i) v colours-slot
             ∙ rw (inv .so-far, add-one, tabulate-snoc i (λ j. colour (tokenAt z (first + j))), f, e)
             (put-put o at (tabulate i (λ j. colour (tokenAt z (first + j)))) (_ ∷ []) (at + i)
-            (omega (arith, tabulate-length i (λ j. colour (tokenAt z (first + j))))) (omega (arith, tabulate-length i (λ j. colour (tokenAt z (first + j))), start .room)))
+            (omega (arith, tabulate-length i (λ j. colour (tokenAt z (first + j))))) (omega (arith, tabulate-length i (λ j. colour (tokenAt z (first + j))), start .room)));
       }
 
 pub ruleset colours-cases = (colours-start, colours-end, colours-token, colours-slot, colours-turn)
@@ -60,7 +60,7 @@ module _ (z : List ℕ) (first m : ℕ) (o : List ℕ) (at : ℕ) (start : LastS
   last-colours = record {
     low = start .low;
     tokens = start .tokens;
-    room = rw (is-d, put-length o at (0x47 ∷ 0x44 ∷ []) (omega (arith, start .room))) (start .room)
+    room = rw (is-d, put-length o at (0x47 ∷ 0x44 ∷ []) (omega (arith, start .room))) (start .room);
   }
 
   pub last-done : (f : ℕ → ℕ) (x : List ℕ) → x ≡ put d (at + 2) (tabulate m f) → x ≡ put o at (0x47 ∷ 0x44 ∷ tabulate m f)

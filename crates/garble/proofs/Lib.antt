@@ -12,3 +12,5 @@ pub mod StepLaws
 pub mod WalkLaws
 pub mod LastLaws
 pub mod BodyLaws
+pub mod WholeLaws
+pub mod GarbleIsLaws

@@ -56,7 +56,7 @@ module _ (c : List ℕ) (n k : ℕ) (z : List ℕ) (start : OperandsStart c n k 
       is-code = e ∙ ap (λ (x : Gate). x .code) is-g;
       is-own = f;
       is-xa = h ∙ rw is-g;
-      is-xb = i ∙ rw is-g
+      is-xb = i ∙ rw is-g;
     }
 
 pub ruleset operand-needs = (gate-room, gate-small, own-fits, low-a, low-b, load-a, load-b)

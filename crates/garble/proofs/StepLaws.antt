@@ -127,7 +127,7 @@ module _ (c seed : List ℕ) (scheme n r : ℕ) (R : Block) (w : List ℕ) (walk
             is-stored = walk .is-rows;
             is-charged = ap kindOf (is-g .is-code) ∙ charged-is;
             record-room = record-fits;
-            slot-room = omega (arith, start .more, start .wires-room, walk .is-n)
+            slot-room = omega (arith, start .more, start .wires-room, walk .is-n);
           }
 
           pub step-charged : (m′ z′ : List ℕ)
@@ -136,7 +136,7 @@ module _ (c seed : List ℕ) (scheme n r : ℕ) (R : Block) (w : List ℕ) (walk
           step-charged m′ z′ done = record {
             zeros-left = done .zeros-left ∙ rw (walk .is-n, site-is) (unfold zeroStep zeroAt in (rw charged-is));
             material-left = done .material-left ∙ rw site-is (unfold recordOf in (rw charged-is));
-            is-next = rw (charged-is, one-mul) (omega arith)
+            is-next = rw (charged-is, one-mul) (omega arith);
           }
 
         -- ---- a free gate
@@ -160,7 +160,7 @@ module _ (c seed : List ℕ) (scheme n r : ℕ) (R : Block) (w : List ℕ) (walk
           step-free x z′ is-x is-z = record {
             zeros-left = is-z ∙ rw (walk .is-n, is-x) (unfold zeroStep zeroAt siteOf in (rw (free-is, walk .is-offset, xa-is, xb-is)));
             material-left = put-none m at ∙ unfold recordOf in (rw free-is);
-            is-next = rw (free-is, zero-mul) (sym (add-zero at))
+            is-next = rw (free-is, zero-mul) (sym (add-zero at));
           }
 
         -- ---- no other gate is accepted

@@ -55,7 +55,7 @@ module _ (c seed : List ℕ) (scheme n r : ℕ) (R : Block) (w : List ℕ) (walk
     material = rw append-nil (front (header (garblingOf c seed scheme)) m₀ 9 (header-length (garblingOf c seed scheme)) (start .header-front));
     zeros =
         front (joinBlocks (inputZeros (garblingOf c seed scheme))) z₀ (16 * inputs c)
-        (join-length (input-zeros-blocks (garblingOf c seed scheme))) (start .inputs-front)
+        (join-length (input-zeros-blocks (garblingOf c seed scheme))) (start .inputs-front);
   }
 
   module _ (k at : ℕ) (m z : List ℕ) (inv : Walking c seed scheme r q m₀ z₀ k at m z) where
@@ -83,7 +83,7 @@ module _ (c seed : List ℕ) (scheme n r : ℕ) (R : Block) (w : List ℕ) (walk
         is-at = inv .is-at;
         file-room = omega (arith, start .file-room, inv .material-length);
         wires-room = omega (arith, start .wires-room, inv .zeros-length);
-        so-far = rw (inv .zeros) (take-at (joinBlocks (zerosTo c seed scheme k)) _ (16 * (inputs c + k)) (join-length (zeros-many c seed scheme n r R w walk k)))
+        so-far = rw (inv .zeros) (take-at (joinBlocks (zerosTo c seed scheme k)) _ (16 * (inputs c + k)) (join-length (zeros-many c seed scheme n r R w walk k)));
       }
 
       -- the record of gate k fits
@@ -136,5 +136,5 @@ module _ (c seed : List ℕ) (scheme n r : ℕ) (R : Block) (w : List ℕ) (walk
           zeros-length =
               ap length (done .zeros-left) ∙ put-length z (16 * (inputs c + k)) token (omega (arith, token-wide, below, start .wires-room, inv .zeros-length)) ∙ inv .zeros-length;
           material = material-next;
-          zeros = zeros-next
+          zeros = zeros-next;
         }

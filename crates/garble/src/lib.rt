@@ -1,11 +1,14 @@
 // The garbler's side (01, Operations): garble, encode and pick.
 ghost use mathlib.Core.Path.{_≡_};
 ghost use Rattle.model.specs.Refusals.{pickVerdict};
-ghost use Rattle.model.specs.Operations.{ranOf, EncodeIs, pickPart};
-
+ghost use Rattle.model.specs.Operations.{ranOf, garbledOf, GarbleIs, EncodeIs, pickPart};
 use crate::inputs::encode_inputs;
 use crate::ready::encode_ready;
+use crate::ready::garble_ready;
+use crate::whole::garble_whole;
 use circuit::values::Ready;
+use material::material_length;
+use model::Garbled;
 use model::Ran;
 use model::Refusal;
 use model::Wire;
@@ -17,6 +20,37 @@ pub mod records;
 pub mod seed;
 pub mod walk;
 pub mod whole;
+
+// The material, the zero tokens of all wires and the one tokens of the inputs; or the first of refusals 1 to 7, 8, 14, 19.
+// Answers the material's length and the calls of π made.
+pub fn garble(
+    circuit: &[u8],
+    seed: &[u8],
+    scheme: u8,
+    material: &mut [u8],
+    zeros: &mut [u8],
+    ones: &mut [u8],
+) -> Garbled
+    ensures { λ r. ⌜ GarbleIs (now (circuit .entry)) (now (seed .entry)) scheme (now (material .entry)) (now (zeros .entry)) (now (ones .entry)) (garbledOf r) (now (material .exit)) (now (zeros .exit)) (now (ones .exit)) ⌝ }
+{
+    match garble_ready(
+        circuit,
+        seed,
+        scheme,
+        material.len(),
+        zeros.len(),
+        ones.len(),
+    ) {
+        Ready::Refused(f) => Garbled::Refused(f),
+        Ready::Go(z) => {
+            garble_whole(circuit, seed, scheme, z, material, zeros, ones);
+            Garbled::Done {
+                length: material_length(scheme, z.m, z.p),
+                calls: 4 * z.p,
+            }
+        }
+    }
+}
 
 // The inputs' tokens for their values; or the first of refusals 1 to 7, 9, 10, 11, 19.
 pub fn encode(circuit: &[u8], values: &[u8], zeros: &[u8], ones: &[u8], tokens: &mut [u8]) -> Ran

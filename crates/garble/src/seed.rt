@@ -15,7 +15,14 @@ pub fn seed_block(t: &[u8; 256], w: &[u8; 176], i: usize) -> Block
 }
 
 // The zero and the one tokens of n inputs, from wire 1 on.
-pub fn garble_inputs(t: &[u8; 256], w: &[u8; 176], r: Block, n: usize, zeros: &mut [u8], ones: &mut [u8])
+pub fn garble_inputs(
+    t: &[u8; 256],
+    w: &[u8; 176],
+    r: Block,
+    n: usize,
+    zeros: &mut [u8],
+    ones: &mut [u8],
+)
     requires { ⌜ IsSBox (now t) ⌝ }
     requires { ⌜ InputsRoom n (now zeros) (now ones) ⌝ }
     ensures { λ _. ⌜ InputsIs (now (w .entry)) (r .bytes) n (now (zeros .entry)) (now (ones .entry)) (now (zeros .exit)) (now (ones .exit)) ⌝ }

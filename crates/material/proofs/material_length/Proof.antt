@@ -18,5 +18,5 @@ returns c = cc
 pub material-length-spec : {M : Type 1} → statement M
 material-length-spec =
     tie.close
-    (tie.spec (λ c κs. search needs) (λ c. search needs) (λ c. search needs) (λ c. search needs) mul-result-2 add-result-3
-    returns)
+    (tie.spec (λ c κs. search needs) (λ c. search needs) (λ c. search needs) (λ c. search needs) mul-result-2
+    add-result-3 returns)

@@ -3,11 +3,8 @@ use borrow.Author.Needs.{needs}
 use Rattle.garble.proofs.inputs.input_token.Statement.{statement}
 use Rattle.garble.proofs.inputs.input_token.Tie as tie
 
-returns : tie.Need-returns
-returns c = search (token-zero, token-one)
-
-returns-2 : tie.Need-returns-2
-returns-2 c = search (token-zero, token-one)
-
 pub input-token-spec : {M : Type 1} → statement M
-input-token-spec = tie.close (tie.spec (λ c. search needs) (λ c κs. search needs) (λ c κs. search needs) returns returns-2)
+input-token-spec =
+    tie.close
+    (tie.spec (λ c. search needs) (λ c κs. search needs) (λ c κs. search needs)
+    (λ c. search (token-zero, token-one)) (λ c. search (token-zero, token-one)))

@@ -12,15 +12,6 @@ Inv-loop zeros first m material₀ at i₀ material i = Writing (λ j. colour (t
 abbrev μ-loop : tie.MeasureT-loop
 μ-loop zeros first m material₀ at i₀ material i = m - i
 
-loop-holds : tie.Need-loop-holds Inv-loop μ-loop
-loop-holds c = search colours-cases
-
-load-requires : tie.Need-load-requires Inv-loop μ-loop
-load-requires c κs = search colours-cases
-
-colour-requires : tie.Need-colour-requires Inv-loop μ-loop
-colour-requires c κs = search colours-cases
-
 loop-again : tie.Need-loop-again Inv-loop μ-loop
 loop-again c =
     colours-turn _ _ _ _ _ (c .before .before .before .before .before .before .pre) _ _ (c .before .before .before .loop .inv) (search needs) _ _ (c .before .load .ensures) (c .colour .ensures)
@@ -29,4 +20,8 @@ returns : tie.Need-returns Inv-loop μ-loop
 returns c = colours-end _ _ _ _ _ (c .before .before .before .before .pre) _ _ (c .before .loop .inv) (search needs)
 
 pub write-colours-spec : {M : Type 1} → statement M
-write-colours-spec = tie.close (tie.spec Inv-loop μ-loop loop-holds (λ c. search needs) (λ c. search needs) (λ c. search needs) load-requires colour-requires (λ c. search needs) (λ c. search needs) (λ c. search needs) (λ c. search needs) loop-again (λ c. search needs) returns)
+write-colours-spec =
+    tie.close
+    (tie.spec Inv-loop μ-loop (λ c. search colours-cases) (λ c. search needs) (λ c. search needs)
+    (λ c. search needs) (λ c κs. search colours-cases) (λ c κs. search colours-cases) (λ c. search needs)
+    (λ c. search needs) (λ c. search needs) (λ c. search needs) loop-again (λ c. search needs) returns)

@@ -4,4 +4,7 @@ use Rattle.garble.proofs.records.fresh_block.Statement.{statement}
 use Rattle.garble.proofs.records.fresh_block.Tie as tie
 
 pub fresh-block-spec : {M : Type 1} → statement M
-fresh-block-spec = tie.close (tie.spec (λ c. search needs) (λ c κs. search needs) (λ c κs. search needs) (λ c. search fresh-gax) (λ c. search fresh-other))
+fresh-block-spec =
+    tie.close
+    (tie.spec (λ c. search needs) (λ c κs. search needs) (λ c κs. search needs) (λ c. search fresh-gax)
+    (λ c. search fresh-other))

@@ -22,4 +22,5 @@ returns c =
 pub garble-charged-spec : {M : Type 1} → statement M
 garble-charged-spec =
     tie.close
-    (tie.spec (λ c κs. search needs) garble-gate-requires store-requires write-record-requires (λ c. search needs) (λ c. search needs) returns)
+    (tie.spec (λ c κs. search needs) garble-gate-requires store-requires write-record-requires (λ c. search needs)
+    (λ c. search needs) returns)

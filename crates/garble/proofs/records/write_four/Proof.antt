@@ -3,8 +3,8 @@ use borrow.Author.Needs.{needs}
 use Rattle.garble.proofs.records.write_four.Statement.{statement}
 use Rattle.garble.proofs.records.write_four.Tie as tie
 
-returns : tie.Need-returns
-returns c = search (four-written, needs)
-
 pub write-four-spec : {M : Type 1} → statement M
-write-four-spec = tie.close (tie.spec (λ c κs. search needs) (λ c. search needs) (λ c κs. search needs) (λ c. search needs) returns)
+write-four-spec =
+    tie.close
+    (tie.spec (λ c κs. search needs) (λ c. search needs) (λ c κs. search needs) (λ c. search needs)
+    (λ c. search (four-written, needs)))

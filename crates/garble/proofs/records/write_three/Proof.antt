@@ -3,8 +3,8 @@ use borrow.Author.Needs.{needs}
 use Rattle.garble.proofs.records.write_three.Statement.{statement}
 use Rattle.garble.proofs.records.write_three.Tie as tie
 
-returns : tie.Need-returns
-returns c = search (three-written, needs)
-
 pub write-three-spec : {M : Type 1} → statement M
-write-three-spec = tie.close (tie.spec (λ c κs. search needs) (λ c. search needs) (λ c κs. search needs) (λ c. search needs) returns)
+write-three-spec =
+    tie.close
+    (tie.spec (λ c κs. search needs) (λ c. search needs) (λ c κs. search needs) (λ c. search needs)
+    (λ c. search (three-written, needs)))

@@ -3,8 +3,8 @@ use borrow.Author.Needs.{needs}
 use Rattle.garble.proofs.records.write_two.Statement.{statement}
 use Rattle.garble.proofs.records.write_two.Tie as tie
 
-returns : tie.Need-returns
-returns c = search (two-written, needs)
-
 pub write-two-spec : {M : Type 1} → statement M
-write-two-spec = tie.close (tie.spec (λ c κs. search needs) (λ c. search needs) (λ c κs. search needs) (λ c. search needs) (λ c κs. search needs) (λ c. search needs) returns)
+write-two-spec =
+    tie.close
+    (tie.spec (λ c κs. search needs) (λ c. search needs) (λ c κs. search needs) (λ c. search needs)
+    (λ c κs. search needs) (λ c. search needs) (λ c. search (two-written, needs)))

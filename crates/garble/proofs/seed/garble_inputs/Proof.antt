@@ -21,6 +21,7 @@ loop-again c =
 pub garble-inputs-spec : {M : Type 1} → statement M
 garble-inputs-spec =
     tie.close
-    (tie.spec Inv-loop μ-loop (λ c. search inputs-start) (λ c. search needs) (λ c κs. search needs) (λ c. search needs)
-    (λ c κs. search room-zeros) (λ c. search needs) (λ c κs. search needs) (λ c κs. search room-ones) (λ c. search needs)
-    (λ c. search needs) loop-again (λ c. search needs) (λ c. search needs) (λ c. search inputs-end))
+    (tie.spec Inv-loop μ-loop (λ c. search inputs-start) (λ c. search needs) (λ c κs. search needs)
+    (λ c. search needs) (λ c κs. search room-zeros) (λ c. search needs) (λ c κs. search needs)
+    (λ c κs. search room-ones) (λ c. search needs) (λ c. search needs) loop-again (λ c. search needs)
+    (λ c. search needs) (λ c. search inputs-end))

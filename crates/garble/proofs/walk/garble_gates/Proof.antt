@@ -11,9 +11,6 @@ Inv-loop t w ws seed plan circuit q material₀ zeros₀ k₀ at₀ material zer
 abbrev μ-loop : tie.MeasureT-loop
 μ-loop t w ws seed plan circuit q material₀ zeros₀ k₀ at₀ material zeros k at = q - k
 
-loop-holds : tie.Need-loop-holds Inv-loop μ-loop
-loop-holds c = search walk-start
-
 garble-step-requires : tie.Need-garble-step-requires Inv-loop μ-loop
 garble-step-requires c κs =
     let pre = c .before .before .before .before .before .before .before .before .pre in
@@ -24,11 +21,8 @@ loop-again c =
     let pre = c .before .before .before .before .before .before .before .before .before .before .before .before .before .pre in
     walk-turn _ _ _ _ _ _ _ (pre .1 .1 .0) _ _ _ (pre .1 .1 .1) _ _ _ _ (c .before .before .before .before .before .before .before .before .loop .inv) (search needs) _ _ _ (c .before .before .before .before .garble-step .ensures)
 
-returns : tie.Need-returns Inv-loop μ-loop
-returns c = search walk-end
-
 pub garble-gates-spec : {M : Type 1} → statement M
 garble-gates-spec =
     tie.close
-    (tie.spec Inv-loop μ-loop loop-holds garble-step-requires (λ c. search needs) (λ c. search needs) loop-again (λ c. search needs)
-    (λ c. search needs) returns)
+    (tie.spec Inv-loop μ-loop (λ c. search walk-start) garble-step-requires (λ c. search needs) (λ c. search needs)
+    loop-again (λ c. search needs) (λ c. search needs) (λ c. search walk-end))

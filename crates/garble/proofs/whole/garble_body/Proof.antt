@@ -38,5 +38,5 @@ returns c = body-done _ _ _ _ _ _ _ (c .before .before .before .before .before .
 pub garble-body-spec : {M : Type 1} → statement M
 garble-body-spec =
     tie.close
-    (tie.spec garble-gates-requires mul-at add-at mul-at-2 add-at-2 add-write-last sub-write-last add-write-last-2 write-last-requires
-    (λ c. search needs) (λ c. search needs) returns)
+    (tie.spec garble-gates-requires mul-at add-at mul-at-2 add-at-2 add-write-last sub-write-last add-write-last-2
+    write-last-requires (λ c. search needs) (λ c. search needs) returns)

@@ -7,5 +7,5 @@ pub check-file-spec : {M : Type 1} → statement M
 check-file-spec =
     tie.close
     (tie.spec (λ c. search file-cases) (λ c κs. search needs) (λ c. search file-cases) (λ c. search needs)
-    (λ c. search file-cases) (λ c. search file-cases) (λ c κs. search needs) (λ c. search file-cases) (λ c κs. search needs)
-    (λ c. search file-cases) (λ c. search file-cases))
+    (λ c. search file-cases) (λ c. search file-cases) (λ c κs. search needs) (λ c. search file-cases)
+    (λ c κs. search needs) (λ c. search file-cases) (λ c. search file-cases))

@@ -6,4 +6,5 @@ use Rattle.material.proofs.marks.mark_at.Tie as tie
 pub mark-at-spec : {M : Type 1} → statement M
 mark-at-spec =
     tie.close
-    (tie.spec (λ c. search needs) (λ c. search mark-cases) (λ c. search needs) (λ c. search needs) (λ c. search mark-cases))
+    (tie.spec (λ c. search needs) (λ c. search mark-cases) (λ c. search needs) (λ c. search needs)
+    (λ c. search mark-cases))

@@ -6,6 +6,7 @@ use Rattle.material.proofs.records.pass_gate.Tie as tie
 pub pass-gate-spec : {M : Type 1} → statement M
 pass-gate-spec =
     tie.close
-    (tie.spec (λ c κs. (search gate-inside, search needs)) (λ c. search needs) (λ c. search needs) (λ c. search needs)
-    (λ c κs. search needs) (λ c. search needs) (λ c κs. search record-inside) (λ c. search needs) (λ c. search needs)
-    (λ c. search pass-cases) (λ c. search pass-cases) (λ c. search pass-cases))
+    (tie.spec (λ c κs. (search gate-inside, search needs)) (λ c. search needs) (λ c. search needs)
+    (λ c. search needs) (λ c κs. search needs) (λ c. search needs) (λ c κs. search record-inside)
+    (λ c. search needs) (λ c. search needs) (λ c. search pass-cases) (λ c. search pass-cases)
+    (λ c. search pass-cases))

@@ -1,0 +1,106 @@
+-- Garble: what the answer of `garble_ready` tells, and what garble answers and leaves. Assumes nothing.
+use Prim.Native.Nat.{ℕ, _+_, _*_, _≤_, _<_}
+use native.Mathlib.Nat.{mul-comm}
+use native.Mathlib.Omega.{arith}
+use mathlib.Core.Path.{_≡_, refl, sym, ap, ap₂, _∙_}
+use mathlib.Core.List.{List}
+use mathlib.Core.Bool.{Bool, true, false, cond}
+use borrow.Author.Tests.{ltb-false, leb-true, eqb-true, not-false}
+use lib.Dec.{eqb}
+use lib.ListN.{length}
+use mir.Syntax.{w64}
+use mir.Val.{Fits}
+use Rattle.model.specs.declared.Sizes.{Sizes}
+use Rattle.model.specs.declared.Refusal.{Refusal}
+use Rattle.model.specs.Circuit.{charges, circuitOf, outputs, gates, gateAt}
+use Rattle.model.specs.Bytes.{tabulate}
+use Rattle.model.specs.Gax.{dualKey, gax}
+use Rattle.model.specs.Gaxr.{gaxr}
+use Rattle.model.specs.HalfGates.{hash, half}
+use Rattle.model.specs.Garbling.{schemeOf}
+use Rattle.model.specs.Material.{materialLength}
+use Rattle.model.specs.Refusals.{Verdict, fine, verdictOf, circuitVerdict, seedVerdict, schemeVerdict, roomVerdict}
+use Rattle.model.specs.Operations.{Answer, no, yes, answer, sizesOf, garbleVerdict, made, garbleMade, calls, GarbleIs}
+use Rattle.model.proofs.Verdicts.{Given, yes-given, Turned, no-turned, then-fine, refuse-fine, and-both}
+use Rattle.model.proofs.Lists.{tabulate-length}
+use Rattle.model.proofs.Accepted.{accepted-header}
+use Rattle.model.proofs.Circuits.{charges-le}
+use Rattle.model.proofs.Calls.{calls-all}
+use Rattle.circuit.specs.Answers.{readyOf}
+use Rattle.circuit.specs.declared.values.Ready.{Ready}
+use Rattle.garble.specs.Answers.{garbleReady}
+use Rattle.garble.specs.Whole.{WholeStart, WholeIs}
+
+-- each scheme calls π four times at a charged gate
+four-calls : (k : ℕ) → schemeOf k .garbleCalls ≡ 4
+unfolding schemeOf gax gaxr half
+four-calls k = go (eqb k 1) (eqb k 2)
+  where
+    go : (a b : Bool) → cond a (gax dualKey) (cond b (gaxr dualKey) (half hash)) .garbleCalls ≡ 4
+    go true b = refl
+    go false true = refl
+    go false false = refl
+
+module _ (c seed : List ℕ) (scheme : ℕ) (m z o : List ℕ) (r : Ready) (is-r : readyOf r ≡ garbleReady c seed scheme (length m) (length z) (length o)) where
+  pub garble-refused : (f : Refusal) → r ≡ Ready.Refused f → GarbleIs c seed scheme m z o (no (verdictOf f)) m z o
+  garble-refused f e = go (no-turned (garbleVerdict c seed scheme (length m) (length z) (length o)) (verdictOf f) (sizesOf c) (rw e at is-r))
+    where
+      go : Turned (garbleVerdict c seed scheme (length m) (length z) (length o)) (verdictOf f) → GarbleIs c seed scheme m z o (no (verdictOf f)) m z o
+      go t = record { answered = rw (t .is-v, t .is-w); material-left = rw (t .is-v); zeros-left = rw (t .is-v); ones-left = rw (t .is-v) }
+
+  module _ (s : Sizes) (e : r ≡ Ready.Go s) where
+    given : Given (garbleVerdict c seed scheme (length m) (length z) (length o)) s (sizesOf c)
+    given = yes-given (garbleVerdict c seed scheme (length m) (length z) (length o)) s (sizesOf c) (rw e at is-r)
+
+    is-m : s .m ≡ outputs c
+    unfolding sizesOf
+    is-m = ap (λ (x : Sizes). x .m) (given .is-result)
+
+    is-p : s .p ≡ charges (circuitOf c .gates)
+    unfolding sizesOf
+    is-p = ap (λ (x : Sizes). x .p) (given .is-result)
+
+    pub garble-go : WholeStart c seed scheme s m z o
+    unfolding garbleVerdict seedVerdict schemeVerdict roomVerdict
+    garble-go =
+        let a = then-fine _ _ (given .is-fine) in
+        let b = then-fine _ _ (a .0) in
+        let d = then-fine _ _ (b .0) in
+        let f = then-fine _ _ (d .0) in
+        let g = then-fine _ _ (f .0) in
+        let h = and-both _ _ (not-false _ (refuse-fine _ _ _ (f .1))) in
+        record {
+          accepted = g .0;
+          sizes = given .is-result;
+          seed-length = eqb-true _ _ (not-false _ (refuse-fine _ _ _ (g .1)));
+          scheme-low = leb-true _ _ (h .0);
+          scheme-high = leb-true _ _ (h .1);
+          file-room = ltb-false _ _ (refuse-fine _ _ _ (d .1));
+          wires-room = ltb-false _ _ (refuse-fine _ _ _ (b .1));
+          inputs-room = ltb-false _ _ (refuse-fine _ _ _ (a .1));
+        }
+
+    pub few-outputs : s .m ≤ 65535
+    few-outputs = let h = accepted-header c (garble-go .accepted) in omega (arith, is-m, h .sizes .m-high, h .sizes .sum)
+
+    pub few-charges : s .p ≤ 65535
+    unfolding circuitOf
+    few-charges =
+        let h = accepted-header c (garble-go .accepted) in
+        omega (arith, is-p, charges-le (tabulate (gates c) (gateAt c)), tabulate-length (gates c) (gateAt c), h .sizes .sum)
+
+    pub calls-fit : Fits w64 (4 * s .p)
+    calls-fit = omega (arith, few-charges)
+
+    pub garble-done : (l : ℕ) → l ≡ materialLength scheme (s .m) (s .p) → (m′ z′ o′ : List ℕ) → WholeIs c seed scheme m z o m′ z′ o′
+        → GarbleIs c seed scheme m z o (yes (made l (4 * s .p))) m′ z′ o′
+    unfolding garbleMade
+    garble-done l is-l m′ z′ o′ done = record {
+      answered =
+          rw (given .is-fine)
+          (ap₂ (λ (a b : ℕ). yes (made a b)) (is-l ∙ rw (is-m, is-p))
+          (mul-comm 4 (s .p) ∙ sym (calls-all (schemeOf scheme .garbleCalls) (circuitOf c .gates) ∙ ap₂ (λ (a b : ℕ). a * b) (sym is-p) (four-calls scheme))));
+      material-left = rw (given .is-fine) (done .material-left);
+      zeros-left = rw (given .is-fine) (done .zeros-left);
+      ones-left = rw (given .is-fine) (done .ones-left);
+    }
