@@ -22,6 +22,8 @@ returns : tie.Need-returns
 returns c =
     step-charged _ _ _ _ _ _ _ (c .before .before .before .before .before .before .before .before .before .before .before .before .before .before .before .before .before .before .pre .1 .1 .0) _ _ _ _ (c .before .before .before .before .before .before .before .before .before .before .before .before .before .before .before .before .before .before .pre .1 .1 .1) _ (c .before .before .before .before .before .before .before .before .before .before .before .before .read-operands .ensures) _ (c .before .before .before .before .before .before .before .before .before .before .before .code-kind .ensures) _ _ _ (c .before .before .before .before .before .before .before .before .before .u .given .1) _ _ (c .before .before .before .before .before .garble-charged .ensures)
 
+free-zero-requires : tie.Need-free-zero-requires
+free-zero-requires c κs = (
   step-free-p _ _ _ _ _ _ _ (c .before .before .before .before .before .before .before .before .before .before .before .pre .1 .1 .0) _ _ _ _ (c .before .before .before .before .before .before .before .before .before .before .before .pre .1 .1 .1) _ (c .before .before .before .before .before .read-operands .ensures) _ (c .before .before .before .before .code-kind .ensures) _ _ _ (c .before .before .p .given .1),
   step-free-q _ _ _ _ _ _ _ (c .before .before .before .before .before .before .before .before .before .before .before .pre .1 .1 .0) _ _ _ _ (c .before .before .before .before .before .before .before .before .before .before .before .pre .1 .1 .1) _ (c .before .before .before .before .before .read-operands .ensures) _ (c .before .before .before .before .code-kind .ensures) _ _ _ (c .before .before .p .given .1),
   step-free-c _ _ _ _ _ _ _ (c .before .before .before .before .before .before .before .before .before .before .before .pre .1 .1 .0) _ _ _ _ (c .before .before .before .before .before .before .before .before .before .before .before .pre .1 .1 .1) _ (c .before .before .before .before .before .read-operands .ensures) _ (c .before .before .before .before .code-kind .ensures) _ _ _ (c .before .before .p .given .1),
@@ -39,6 +41,6 @@ returns-3 c = step-refused _ _ _ _ _ _ _ (c .before .before .before .before .bef
 pub garble-step-spec : {M : Type 1} → statement M
 garble-step-spec =
     tie.close
-    (tie.spec (λ c κs. search step-operands) (λ c. search needs) (λ c. search needs) (λ c κs. search needs)
-    (λ c. search needs) garble-charged-requires head-fits rows-fit next-fits (λ c. search needs)
-    (λ c κs. () store-requires (λ c. search needs) (λ c. search needs) (λ c. search needs) returns (λ c. search needs) returns-2 (λ c. search needs) returns-3)
+    (tie.spec (λ c κs. search step-operands) (λ c. search needs) (λ c. search needs) (λ c κs. search needs) (λ c. search needs) garble-charged-requires
+    head-fits rows-fit next-fits (λ c. search needs) free-zero-requires store-requires (λ c. search needs)
+    (λ c. search needs) (λ c. search needs) returns (λ c. search needs) returns-2 (λ c. search needs) returns-3)

@@ -6,6 +6,8 @@ use Rattle.garble.proofs.whole.garble_whole.Tie as tie
 garble-front-requires : tie.Need-garble-front-requires
 garble-front-requires c κs = (c .before .before .before .before .before .before .before .before .before .before .before .before .before .before .s-box .ensures, whole-front _ _ _ _ _ _ _ (c .before .before .before .before .before .before .before .before .before .before .before .before .before .before .before .before .before .before .before .before .pre))
 
+garble-body-requires : tie.Need-garble-body-requires
+garble-body-requires c κs = (
   c .before .before .before .before .before .before .before .before .before .before .before .before .before .before .before .before .before .before .before .before .before .before .before .before .before .before .s-box .ensures,
   (
     c .before .before .before .before .before .before .before .before .before .before .before .before .before .before .before .before .before .before .before .before .before .before .before .before .before .fixed-schedule .ensures,
@@ -23,6 +25,6 @@ returns c =
 pub garble-whole-spec : {M : Type 1} → statement M
 garble-whole-spec =
     tie.close
-    (tie.spec (λ c κs. search needs) (λ c κs. search needs) (λ c κs. search needs) (λ c κs. search needs)
-    (λ c κs. search needs) (λ c κs. search needs) (λ c κs. search needs) garble-front-requires
-    (λ c κs. () (λ c. search needs) (λ c. search needs) (λ c. search needs) returns)
+    (tie.spec (λ c κs. search needs) (λ c κs. search needs) (λ c κs. search needs) (λ c κs. search needs) (λ c κs. search needs)
+    (λ c κs. search needs) (λ c κs. search needs) garble-front-requires garble-body-requires (λ c. search needs)
+    (λ c. search needs) (λ c. search needs) returns)
