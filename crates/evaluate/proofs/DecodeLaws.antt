@@ -6,14 +6,13 @@ use lib.ListN.{length, drop}
 use Rattle.model.specs.declared.Sizes.{Sizes}
 use Rattle.model.specs.declared.Refusal.{Refusal}
 use Rattle.model.specs.Bytes.{over}
-use Rattle.model.specs.Circuit.{circuitOf, outputs}
+use Rattle.model.specs.Circuit.{outputs}
 use Rattle.model.specs.Evaluation.{cut, decodeWith, decode, decodeBytes}
 use Rattle.model.specs.Refusals.{fine, verdictOf, circuitVerdict}
 use Rattle.model.specs.Operations.{sizesOf, decodeVerdict, DecodeIs}
 use Rattle.model.proofs.Verdicts.{Given, yes-given, Turned, no-turned, then-fine}
 use Rattle.circuit.specs.Answers.{readyOf}
 use Rattle.circuit.specs.declared.values.Ready.{Ready}
-use Rattle.material.specs.Answers.{Accepted}
 use Rattle.material.proofs.SizeLaws.{outputs-many, is-m}
 use Rattle.evaluate.specs.Answers.{restVerdict, decodeReady}
 use Rattle.evaluate.specs.Last.{LastStart}

@@ -1,14 +1,14 @@
 -- One gate, evaluated: the rows that are loaded from its record, and its token by each scheme and each kind of gate. Assumes nothing.
 use Prim.Native.Nat.{ℕ, zero, suc, _+_, _*_, _-_, _≤_, _<_}
 use native.Mathlib.Omega.{arith}
-use mathlib.Core.Path.{_≡_, refl, sym, ap, ap₂, _∙_}
-use mathlib.Core.List.{List, [], _∷_}
+use mathlib.Core.Path.{_≡_, refl, sym, ap, _∙_}
+use mathlib.Core.List.{List, _∷_}
 use borrow.Author.Tests.{ne-eqb}
 use lib.ListN.{length, getD, take, drop}
 use lib.Seq.{drop-drop}
 use Rattle.model.specs.declared.Kind as Kinds
 use Rattle.model.specs.declared.Truth.{Truth}
-use Rattle.model.specs.Circuit.{Kind, charged, free, refused, kindOf, charge, value}
+use Rattle.model.specs.Circuit.{Kind, charged, free, refused, kindOf, value}
 use Rattle.model.specs.Aes.{Block, block}
 use Rattle.model.specs.Tokens.{colour, freeToken}
 use Rattle.model.specs.Gax.{dualKey, openRow, gax}
@@ -23,6 +23,7 @@ use Rattle.model.proofs.Codes.{Means, code-means}
 use Rattle.model.proofs.Schemes.{rows-stored}
 use Rattle.block.specs.declared.Block as Blocks
 use Rattle.circuit.specs.Answers.{meaning}
+use Rattle.material.specs.declared.records.Cursor.{Cursor}
 use Rattle.evaluate.specs.Gate.{RowRoom, RecordRoom, GateRoom, OpenedIs}
 
 -- row j of k rows that start at an index
@@ -118,11 +119,12 @@ module _ (scheme code : ℕ) (k : Kinds.Kind) (is-k : meaning k ≡ kindOf code)
 
     pub charged-opened : (at : ℕ) (s : List ℕ) → GateRoom scheme code at s → (g rows : ℕ) (a b : Block) (token : Blocks.Block)
         → token .bytes ≡ schemeOf scheme .opened g (cut (schemeOf scheme .stored) (drop 4 (drop at s))) a b → rows ≡ rowsStored scheme
-        → OpenedIs scheme g code a b s at (record { token = token; next = at + 4 + 16 * rows })
+        → (next : Cursor) → next .at ≡ at + 4 + 16 * rows
+        → OpenedIs scheme g code a b s at (record { token = token; next = next })
     unfolding openAt
-    charged-opened at s r g rows a b token is-token is-rows = record {
+    charged-opened at s r g rows a b token is-token is-rows next is-next = record {
       is-token = rw is-charged is-token;
-      is-next = rw (is-charged, rows-stored scheme (r .low) (r .high), ← is-rows) (omega arith);
+      is-next = is-next ∙ rw (is-charged, rows-stored scheme (r .low) (r .high), ← is-rows) (omega arith);
     }
 
   module _ (p q c : ℕ) (e : k ≡ Kinds.Kind.Free p q c) where
@@ -138,15 +140,15 @@ module _ (scheme code : ℕ) (k : Kinds.Kind) (is-k : meaning k ≡ kindOf code)
     pub free-q : q ≤ 1
     free-q = low (table .bit-q)
 
-    pub free-opened : (at : ℕ) (s : List ℕ) (g : ℕ) (a b : Block) (token : Blocks.Block) → token .bytes ≡ freeToken p q a b
-        → OpenedIs scheme g code a b s at (record { token = token; next = at })
+    pub free-opened : (here : Cursor) (s : List ℕ) (g : ℕ) (a b : Block) (token : Blocks.Block) → token .bytes ≡ freeToken p q a b
+        → OpenedIs scheme g code a b s (here .at) (record { token = token; next = here })
     unfolding openAt
-    free-opened at s g a b token is-token = record { is-token = rw is-free is-token; is-next = rw is-free (omega arith) }
+    free-opened here s g a b token is-token = record { is-token = rw is-free is-token; is-next = rw is-free (omega arith) }
 
-  pub refused-opened : k ≡ Kinds.Kind.Refused → (at : ℕ) (s : List ℕ) (g : ℕ) (a b : Block) (token : Blocks.Block) → token .bytes ≡ block 0
-      → OpenedIs scheme g code a b s at (record { token = token; next = at })
+  pub refused-opened : k ≡ Kinds.Kind.Refused → (here : Cursor) (s : List ℕ) (g : ℕ) (a b : Block) (token : Blocks.Block) → token .bytes ≡ block 0
+      → OpenedIs scheme g code a b s (here .at) (record { token = token; next = here })
   unfolding openAt
-  refused-opened e at s g a b token is-token =
+  refused-opened e here s g a b token is-token =
       let f : kindOf code ≡ refused = sym (rw e at is-k) in
       record { is-token = rw f is-token; is-next = rw f (omega arith) }
 

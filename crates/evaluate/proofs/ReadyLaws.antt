@@ -14,7 +14,7 @@ use Rattle.model.specs.declared.Ran.{Ran}
 use Rattle.model.specs.Circuit.{circuitOf, inputs, outputs, gates}
 use Rattle.model.specs.Refusals.{Verdict, fine, refused, refuse, _then_, verdictOf, circuitVerdict, tokensVerdict, materialVerdict, roomVerdict}
 use Rattle.model.specs.Operations.{no, yes, answer, sizesOf, checkedOf, checkAnswer, ranOf, evaluateVerdict, decodeVerdict}
-use Rattle.model.proofs.Verdicts.{Given, yes-given, no-then, then-fine, refuse-fine}
+use Rattle.model.proofs.Verdicts.{yes-given, no-then, then-fine, refuse-fine}
 use Rattle.circuit.specs.Answers.{readyOf}
 use Rattle.circuit.specs.declared.values.Ready.{Ready}
 use Rattle.material.specs.Answers.{Accepted}

@@ -1,5 +1,5 @@
 -- The walk over the gates: one gate's step, and the invariant of the loop. Assumes nothing.
-use Prim.Native.Nat.{ℕ, zero, suc, _+_, _*_, _-_, _≤_, _<_}
+use Prim.Native.Nat.{ℕ, suc, _+_, _*_, _-_, _≤_, _<_}
 use native.Mathlib.Nat.{add-mul, mul-le-mul-right}
 use native.Mathlib.Numerals.{add-one}
 use native.Mathlib.Omega.{arith}
@@ -11,7 +11,7 @@ use mir.Syntax.{w16}
 use mir.Val.{Fits}
 use Rattle.model.specs.declared.Gate.{Gate}
 use Rattle.model.specs.Bytes.{tabulate, over, put}
-use Rattle.model.specs.Circuit.{circuitOf, inputs, outputs, gates, gateAt, gateWire, kindOf, charge, charges, wire}
+use Rattle.model.specs.Circuit.{circuitOf, inputs, gates, gateAt, gateWire, kindOf, charge, charges, wire}
 use Rattle.model.specs.Aes.{Block, block}
 use Rattle.model.specs.Scheme.{Scheme}
 use Rattle.model.specs.Garbling.{schemeOf}
@@ -72,7 +72,7 @@ module _ (scheme : ℕ) (c : List ℕ) (n k : ℕ) (s : List ℕ) (at : ℕ) (d 
 
     pub step-done : (A B : Block) → A ≡ take 16 (drop (16 * (g .a - 1)) d) → B ≡ take 16 (drop (16 * (g .b - 1)) d)
         → (x : Opened) → OpenedIs scheme (n + k + 1) (g .code) A B s at x → (d′ : List ℕ) → d′ ≡ put d (16 * (n + k)) (x .token .bytes)
-        → StepIs scheme c n k s at d (x .next) d′
+        → StepIs scheme c n k s at d (x .next .at) d′
     unfolding tokenAt
     step-done A B is-A is-B x is-x d′ is-d = record {
       token-left = is-d ∙ rw (is-x .is-token, is-A, is-B, is-g);
@@ -135,12 +135,12 @@ module _ (c s : List ℕ) (n q : ℕ) (o : List ℕ) (start : WalkStart c s n q 
   unfolding materialLength
   walk-scheme = omega (arith, start .whole)
 
-  pub walk-start : Walking c s n q o 0 9 o
+  pub walk-start : (at : ℕ) → at ≡ 9 → Walking c s n q o 0 at o
   unfolding tokensTo run recordStart charges
-  walk-start = record {
+  walk-start at e = record {
     within = omega arith;
     same-length = refl;
-    is-at = omega arith;
+    is-at = e ∙ omega arith;
     so-far = front n o (omega (arith, start .room));
   }
 

@@ -1,4 +1,4 @@
--- The refusals of evaluate and decode, as answers in the model's terms.
+-- The refusals of evaluate and decode, as answers in the model's terms. Document 01, "Operations".
 use Prim.Native.Nat.{ℕ, _≤_}
 use mathlib.Core.List.{List}
 use Rattle.model.specs.declared.Sizes.{Sizes}

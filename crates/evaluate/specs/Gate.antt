@@ -1,4 +1,4 @@
--- One gate, evaluated: the room that its record has in the material s, and what is left.
+-- One gate, evaluated: the room that its record has in the material s, and what is left. Document 01, "Scheme 1" to "Scheme 3".
 use Prim.Native.Nat.{ℕ, _+_, _*_, _≤_}
 use mathlib.Core.Path.{_≡_}
 use mathlib.Core.List.{List}
@@ -29,4 +29,4 @@ pub record GateRoom (scheme code at : ℕ) (s : List ℕ) : Type 0 where
 -- r is the token of the gate of wire number g, from the tokens A and B, and the place of the next record
 pub record OpenedIs (scheme g code : ℕ) (A B : Block) (s : List ℕ) (at : ℕ) (r : Opened) : Type 0 where
   pub is-token : r .token .bytes ≡ openAt (schemeOf scheme) (kindOf code) g (drop at s) A B
-  pub is-next : r .next ≡ at + charge (kindOf code) * (4 + 16 * schemeOf scheme .stored)
+  pub is-next : r .next .at ≡ at + charge (kindOf code) * (4 + 16 * schemeOf scheme .stored)

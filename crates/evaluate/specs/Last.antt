@@ -1,4 +1,4 @@
--- Decoding: what it starts from.
+-- Decoding: what it starts from. Document 01, "Operations".
 use Prim.Native.Nat.{ℕ, _+_, _*_, _-_, _≤_, _<_}
 use mathlib.Core.Path.{_≡_}
 use mathlib.Core.List.{List}

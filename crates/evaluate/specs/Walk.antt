@@ -1,4 +1,4 @@
--- The walk over the gates of a circuit c, with the material s: what it starts from, and what one gate leaves.
+-- The walk over the gates of a circuit c, with the material s: what it starts from, and what one gate leaves. Document 01, "Operations".
 use Prim.Native.Nat.{ℕ, _+_, _*_, _≤_, _<_}
 use mathlib.Core.Path.{_≡_}
 use mathlib.Core.List.{List}

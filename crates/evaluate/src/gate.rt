@@ -1,4 +1,5 @@
 // One gate, evaluated: its token, from the tokens held on its operands (01, Tokens and Scheme 1 to Scheme 3).
+// Whatever enciphers is lent the S-box t and the schedule w of π's fixed key.
 ghost use mathlib.Core.Path.{_≡_};
 ghost use mathlib.Core.List.{_∷_};
 ghost use lib.ListN.{getD, drop};
@@ -9,6 +10,7 @@ ghost use Rattle.evaluate.specs.Gate.{RowRoom, RecordRoom, GateRoom, Ope
 use block::Block;
 use block::load;
 use circuit::code::code_kind;
+use material::records::Cursor;
 use material::rows_stored;
 use model::Kind;
 use model::Wire;
@@ -20,7 +22,7 @@ use scheme::row_index;
 // A gate's token, and where the next row record of the material stands.
 pub struct Opened {
     pub token: Block,
-    pub next: usize,
+    pub next: Cursor,
 }
 
 // Row i of scheme 2, whose rows 1 to 3 start at an index: row 0 is not stored, and block 0 is taken for it.
@@ -67,8 +69,8 @@ fn open_charged(
     }
 }
 
-// The token of gate g of a code, from the tokens a and b. Where the gate is charged, its record stands at an index, and the
-// next record after it; a free gate has none.
+// The token of gate g of a code, from the tokens a and b. The next row record of the material stands here: it is the gate's own
+// if the gate is charged, and a free gate has none.
 pub fn open_gate(
     t: &[u8; 256],
     w: &[u8; 176],
@@ -78,26 +80,26 @@ pub fn open_gate(
     a: Block,
     b: Block,
     material: &[u8],
-    at: usize,
+    here: Cursor,
 ) -> Opened
     requires { ⌜ IsSBox (now t) ⌝ }
     requires { ⌜ now w ≡ keyExpansion fixedKey ⌝ }
-    requires { ⌜ GateRoom scheme code at (now material) ⌝ }
-    ensures { λ r. ⌜ OpenedIs scheme (g .0) code (a .bytes) (b .bytes) (now (material .entry)) at r ⌝ }
+    requires { ⌜ GateRoom scheme code (here .at) (now material) ⌝ }
+    ensures { λ r. ⌜ OpenedIs scheme (g .0) code (a .bytes) (b .bytes) (now (material .entry)) (here .at) r ⌝ }
 {
     match code_kind(code) {
         Kind::Charged(_, _, _) => {
-            let token = open_charged(t, w, scheme, g, a, b, material, at);
-            let next = at + 4 + 16 * rows_stored(scheme);
+            let token = open_charged(t, w, scheme, g, a, b, material, here.at);
+            let next = here.past(rows_stored(scheme));
             Opened { token, next }
         }
         Kind::Free { p, q, c: _ } => {
             let token = free_token(p, q, a, b);
-            Opened { token, next: at }
+            Opened { token, next: here }
         }
         Kind::Refused => Opened {
             token: Block::of_number(0),
-            next: at,
+            next: here,
         },
     }
 }

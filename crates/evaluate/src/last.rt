@@ -16,7 +16,8 @@ pub fn decode_outputs(m: usize, tokens: &[u8], material: &[u8], bits: &mut [u8])
     let mut i: usize = 0;
     while i < m {
         let x = load(tokens, 16 * i);
-        bits[i] = x.colour().0 ^ material[first + i];
+        let byte = material[first + i];
+        bits[i] = x.colour().0 ^ byte;
         i += 1;
     }
 }

@@ -1,4 +1,5 @@
 // The walk over the gates (01, Operations, evaluate): the tokens of all wires, in the buffer that they are read from.
+// Whatever enciphers is lent the S-box t and the schedule w of π's fixed key.
 ghost use mathlib.Core.Path.{_≡_};
 ghost use Prim.Native.Nat.{_*_, _≤_};
 ghost use Rattle.model.specs.Bytes.{over};
@@ -15,10 +16,11 @@ use block::load;
 use block::store;
 use buffer::copy_front;
 use circuit::gates::gate_at;
+use material::records::Cursor;
 use model::Wire;
 
-// Gate k, from 0, of a circuit of n inputs: its token is written after those of the wires before it. `at` is where the next row
-// record stands, and the result where it stands after this gate.
+// Gate k, from 0, of a circuit of n inputs: its token is written after those of the wires before it. The next row record stands
+// here, and after this gate where the result says.
 fn evaluate_step(
     t: &[u8; 256],
     w: &[u8; 176],
@@ -27,20 +29,20 @@ fn evaluate_step(
     n: usize,
     k: usize,
     material: &[u8],
-    at: usize,
+    here: Cursor,
     wires: &mut [u8],
-) -> usize
+) -> Cursor
     requires { ⌜ IsSBox (now t) ⌝ }
     requires { ⌜ now w ≡ keyExpansion fixedKey ⌝ }
-    requires { ⌜ StepStart scheme (now circuit) n k (now material) at (now wires) ⌝ }
-    ensures { λ next. ⌜ StepIs scheme (now (circuit .entry)) n k (now (material .entry)) at (now (wires .entry)) next (now (wires .exit)) ⌝ }
+    requires { ⌜ StepStart scheme (now circuit) n k (now material) (here .at) (now wires) ⌝ }
+    ensures { λ next. ⌜ StepIs scheme (now (circuit .entry)) n k (now (material .entry)) (here .at) (now (wires .entry)) (next .at) (now (wires .exit)) ⌝ }
 {
     let place = 16 * (n + k);
     let own = Wire((n + k + 1) as u16);
     let g = gate_at(circuit, k);
     let a = load(wires, 16 * (g.a as usize - 1));
     let b = load(wires, 16 * (g.b as usize - 1));
-    let x = open_gate(t, w, scheme, own, g.code, a, b, material, at);
+    let x = open_gate(t, w, scheme, own, g.code, a, b, material, here);
     store(wires, place, x.token);
     x.next
 }
@@ -61,15 +63,15 @@ pub fn evaluate_gates(
     ensures { λ _. ⌜ now (wires .exit) ≡ over (joinBlocks (evaluate (circuitOf (now (circuit .entry))) (cut n (now (wires .entry))) (now (material .entry)))) (now (wires .entry)) ⌝ }
 {
     let scheme = material[2];
-    let mut at: usize = 9;
+    let mut here = Cursor::first();
     let mut k: usize = 0;
     while k < q {
-        at = evaluate_step(t, w, scheme, circuit, n, k, material, at, wires);
+        here = evaluate_step(t, w, scheme, circuit, n, k, material, here, wires);
         k += 1;
     }
 }
 
-// The tokens of all wires, from those of the inputs.
+// The tokens of all wires, from those of the inputs. The S-box and π's schedule are made once, here, and lent down.
 pub fn evaluate_wires(
     circuit: &[u8],
     n: usize,

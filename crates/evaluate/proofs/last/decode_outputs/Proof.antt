@@ -12,8 +12,8 @@ abbrev μ-loop : tie.MeasureT-loop
 
 loop-again : tie.Need-loop-again Inv-loop μ-loop
 loop-again c =
-    let coloured = c .before .before in
-    let loaded = coloured .before in
+    let coloured = c .before in
+    let loaded = coloured .before .before in
     let loop = loaded .before .before in
     decode-turn _ _ _ _ (loop .before .before .before .before .pre) _ _ (loop .loop .inv) (search needs) _ _
     (loaded .load .ensures) (coloured .colour .ensures)
@@ -22,5 +22,5 @@ pub decode-outputs-spec : {M : Type 1} → statement M
 decode-outputs-spec =
     tie.close
     (tie.spec Inv-loop μ-loop (λ c. search needs) (λ c. search decode-turns) (λ c. search needs) (λ c κs. search decode-turns)
-    (λ c κs. search needs) (λ c. search needs) (λ c. search decode-turns) (λ c. search decode-turns) (λ c. search needs)
+    (λ c. search needs) (λ c. search decode-turns) (λ c κs. search needs) (λ c. search decode-turns) (λ c. search needs)
     (λ c. search needs) loop-again (λ c. search needs) (λ c. search decode-turns))

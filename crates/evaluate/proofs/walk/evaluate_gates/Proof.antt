@@ -5,14 +5,14 @@ use Rattle.evaluate.proofs.walk.evaluate_gates.Statement.{statement}
 use Rattle.evaluate.proofs.walk.evaluate_gates.Tie as tie
 
 abbrev Inv-loop : tie.InvT-loop
-Inv-loop t w circuit n q material wires₀ scheme at₀ k₀ wires at k = Walking circuit material n q wires₀ k at wires
+Inv-loop t w circuit n q material wires₀ scheme here₀ k₀ wires here k = Walking circuit material n q wires₀ k (here .at) wires
 
 abbrev μ-loop : tie.MeasureT-loop
-μ-loop t w circuit n q material wires₀ scheme at₀ k₀ wires at k = q - k
+μ-loop t w circuit n q material wires₀ scheme here₀ k₀ wires here k = q - k
 
 pub evaluate-gates-spec : {M : Type 1} → statement M
 evaluate-gates-spec =
     tie.close
-    (tie.spec Inv-loop μ-loop (λ c. search walk-turns) (λ c. search walk-turns)
+    (tie.spec Inv-loop μ-loop (λ c. search walk-turns) (λ c κs. search needs) (λ c. search walk-turns)
     (λ c κs. (search needs, (search needs, search walk-turns))) (λ c. search needs)
     (λ c. search needs) (λ c. search walk-turns) (λ c. search needs) (λ c. search walk-turns))

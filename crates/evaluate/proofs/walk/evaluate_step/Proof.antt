@@ -10,7 +10,7 @@ store-requires c κs =
 
 returns : tie.Need-returns
 returns c =
-    let stored = c .before .before in
+    let stored = c .before .before .before in
     let opened = stored .before .before in
     let b = opened .before in
     let a = b .before .before .before in

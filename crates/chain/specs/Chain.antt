@@ -1,0 +1,108 @@
+-- DEMAND 3, of the bytes in the buffers when the chain has ended: the theorem of this project.
+--
+-- "Take every accepted circuit, each scheme, every 16-byte seed and every list of input bits, one for each input. The circuit is
+-- garbled by that scheme from that seed, the bits are encoded with the tokens so made, and evaluation works that encoding through
+-- the material so made. Then on every wire the distance, bit by bit, between the token that evaluation leaves there and that wire's
+-- zero token .. is the all-zero block exactly when the plain circuit carries 0 there, and the seed's offset R exactly when it carries
+-- 1. Decoding the tokens that evaluation left on the outputs, with the same material, gives exactly the bits that the plain circuit
+-- carries there, in the order of the outputs."
+--
+-- Letters: c is the circuit's bytes, v the value list. The six buffers are the material f, the zero tokens z, the one tokens o, the
+-- encoded tokens t, the tokens of all wires w and the bits b; f′, z′, o′, t′, w′, b′ are they when the chain has ended.
+use Prim.Native.Nat.{ℕ, _+_, _*_, _-_, _≤_}
+use mathlib.Core.Path.{_≡_}
+use mathlib.Core.Logic.{_↔_}
+use mathlib.Core.List.{List, map}
+use lib.ListN.{take, drop}
+use Rattle.model.specs.Circuit.{charges, circuitOf, inputs, outputs, gates}
+use Rattle.model.specs.Aes.{block}
+use Rattle.model.specs.Tokens.{garblingOf, offset, distance}
+use Rattle.model.specs.Material.{materialLength}
+use Rattle.model.specs.Evaluation.{tokenAt}
+use Rattle.model.specs.Refusals.{Verdict, fine, verdictOf}
+use Rattle.model.specs.Operations.{Answer, yes, no, garbleMade, evaluateCallsOf, GarbleIs, EncodeIs, EvaluateIs, DecodeIs}
+use Rattle.model.specs.Demand3.{Allowed, carries}
+use Rattle.chain.specs.declared.Chained.{Chained}
+
+-- on every wire k, the distance between the token in w′ and the zero token in z′
+pub record WiresRight (c seed : List ℕ) (scheme : ℕ) (v z′ w′ : List ℕ) : Type 0 where
+  pub allowed : Allowed c seed scheme v
+  pub at-zero : (k : ℕ) → 1 ≤ k → k ≤ inputs c + gates c
+      → (distance (tokenAt w′ k) (tokenAt z′ k) ≡ block 0) ↔ (carries c seed scheme v k ≡ 0)
+  pub at-one : (k : ℕ) → 1 ≤ k → k ≤ inputs c + gates c
+      → (distance (tokenAt w′ k) (tokenAt z′ k) ≡ offset (garblingOf c seed scheme)) ↔ (carries c seed scheme v k ≡ 1)
+
+-- the decoded bytes
+pub record BitsRight (c seed : List ℕ) (scheme : ℕ) (v b′ : List ℕ) : Type 0 where
+  pub decoded : take (outputs c) b′ ≡ map (carries c seed scheme v) (circuitOf c .outputs)
+
+-- ---- what each of the four calls answered and left: a call gets the front of what the calls before it wrote
+
+module _ (c seed : List ℕ) (scheme : ℕ) (v f z o t w b f′ z′ o′ t′ w′ b′ : List ℕ) where
+  -- "evaluate gets .. garble's material": the bytes of it that garble wrote
+  abbrev pub file : List ℕ
+  file = take (materialLength scheme (outputs c) (charges (circuitOf c .gates))) f′
+
+  -- garble ran
+  abbrev pub GarbleRan : Type 0
+  GarbleRan = GarbleIs c seed scheme f z o (yes (garbleMade c scheme)) f′ z′ o′
+
+  -- "Encode gets the first 16n bytes of the zero tokens and the one tokens, as garble wrote them"; it answered r
+  abbrev pub EncodeAnswers : Verdict → Type 0
+  EncodeAnswers r = EncodeIs c v (take (16 * inputs c) z′) (take (16 * inputs c) o′) t r t′
+
+  -- "evaluate gets encode's bytes and garble's material"
+  abbrev pub EvaluateAnswers : Answer ℕ → Type 0
+  EvaluateAnswers r = EvaluateIs c (take (16 * inputs c) t′) file w r w′
+
+  abbrev pub EvaluateRan : Type 0
+  EvaluateRan = EvaluateAnswers (yes (evaluateCallsOf c file))
+
+  -- "decode gets that material and evaluate's tokens of the m outputs"
+  abbrev pub DecodeAnswers : Verdict → Type 0
+  DecodeAnswers r = DecodeIs c (take (16 * outputs c) (drop (16 * (inputs c + gates c) - 16 * outputs c) w′)) file b r b′
+
+  -- ---- where the chain ended
+
+  pub record EndedAtGarble (e : Verdict) : Type 0 where
+    pub garble-is : GarbleIs c seed scheme f z o (no e) f′ z′ o′
+    pub tokens-kept : t′ ≡ t
+    pub wires-kept : w′ ≡ w
+    pub bits-kept : b′ ≡ b
+
+  pub record EndedAtEncode (e : Verdict) : Type 0 where
+    pub garble-ran : GarbleRan
+    pub encode-is : EncodeAnswers e
+    pub wires-kept : w′ ≡ w
+    pub bits-kept : b′ ≡ b
+
+  pub record EndedAtEvaluate (e : Verdict) : Type 0 where
+    pub garble-ran : GarbleRan
+    pub encode-ran : EncodeAnswers fine
+    pub evaluate-is : EvaluateAnswers (no e)
+    pub bits-kept : b′ ≡ b
+
+  -- evaluation ran: every wire is right
+  pub record EndedAtDecode (e : Verdict) : Type 0 where
+    pub garble-ran : GarbleRan
+    pub encode-ran : EncodeAnswers fine
+    pub evaluate-ran : EvaluateRan
+    pub decode-is : DecodeAnswers e
+    pub wires-right : WiresRight c seed scheme v z′ w′
+
+  -- all four ran: every wire and every bit is right
+  pub record Ended : Type 0 where
+    pub garble-ran : GarbleRan
+    pub encode-ran : EncodeAnswers fine
+    pub evaluate-ran : EvaluateRan
+    pub decode-ran : DecodeAnswers fine
+    pub wires-right : WiresRight c seed scheme v z′ w′
+    pub bits-right : BitsRight c seed scheme v b′
+
+-- the chain's answer r, for every argument
+abbrev pub ChainIs : (c seed : List ℕ) (scheme : ℕ) (v f z o t w b : List ℕ) → Chained → (f′ z′ o′ t′ w′ b′ : List ℕ) → Type 0
+ChainIs c seed scheme v f z o t w b (Chained.Garble e) f′ z′ o′ t′ w′ b′ = EndedAtGarble c seed scheme v f z o t w b f′ z′ o′ t′ w′ b′ (verdictOf e)
+ChainIs c seed scheme v f z o t w b (Chained.Encode e) f′ z′ o′ t′ w′ b′ = EndedAtEncode c seed scheme v f z o t w b f′ z′ o′ t′ w′ b′ (verdictOf e)
+ChainIs c seed scheme v f z o t w b (Chained.Evaluate e) f′ z′ o′ t′ w′ b′ = EndedAtEvaluate c seed scheme v f z o t w b f′ z′ o′ t′ w′ b′ (verdictOf e)
+ChainIs c seed scheme v f z o t w b (Chained.Decode e) f′ z′ o′ t′ w′ b′ = EndedAtDecode c seed scheme v f z o t w b f′ z′ o′ t′ w′ b′ (verdictOf e)
+ChainIs c seed scheme v f z o t w b Chained.Done f′ z′ o′ t′ w′ b′ = Ended c seed scheme v f z o t w b f′ z′ o′ t′ w′ b′

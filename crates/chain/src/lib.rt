@@ -1,0 +1,94 @@
+// The chain of demand 3 (01, Operations): garble, encode, evaluate and decode in turn, on one circuit.
+ghost use Rattle.chain.specs.Chain.{ChainIs};
+ghost use Rattle.chain.specs.Parts.{EncodeStart, EncodeOn, EvaluateStart, EvaluateOn, DecodeStart, DecodeOn};
+use circuit::check;
+use evaluate::decode;
+use evaluate::evaluate;
+use garble::encode;
+use garble::garble;
+use model::Checked;
+use model::Evaluated;
+use model::Garbled;
+use model::Ran;
+use model::Refusal;
+use model::Sizes;
+
+// Where the chain ended: all four ran, or one of them refused.
+pub enum Chained {
+    Done,
+    Garble(Refusal),
+    Encode(Refusal),
+    Evaluate(Refusal),
+    Decode(Refusal),
+}
+
+// Decode gets the material and evaluate's tokens of the m outputs, the last m wires.
+fn decode_on(circuit: &[u8], z: Sizes, material: &[u8], wires: &[u8], bits: &mut [u8]) -> Chained
+    requires { ⌜ DecodeStart (now circuit) z (now wires) ⌝ }
+    ensures { λ r. ⌜ DecodeOn (now (circuit .entry)) z (now (material .entry)) (now (wires .entry)) (now (bits .entry)) r (now (bits .exit)) ⌝ }
+{
+    let end = 16 * (z.n + z.q);
+    let from = end - 16 * z.m;
+    match decode(circuit, &wires[from..end], material, bits) {
+        Ran::Refused(f) => Chained::Decode(f),
+        Ran::Done => Chained::Done,
+    }
+}
+
+// Evaluate gets encode's bytes, 16 for each input, and garble's material.
+fn evaluate_on(circuit: &[u8], z: Sizes, material: &[u8], tokens: &[u8], wires: &mut [u8], bits: &mut [u8]) -> Chained
+    requires { ⌜ EvaluateStart (now circuit) z (now tokens) ⌝ }
+    ensures { λ r. ⌜ EvaluateOn (now (circuit .entry)) z (now (material .entry)) (now (tokens .entry)) (now (wires .entry)) (now (bits .entry)) r (now (wires .exit)) (now (bits .exit)) ⌝ }
+{
+    let list = 16 * z.n;
+    match evaluate(circuit, &tokens[..list], material, wires) {
+        Evaluated::Refused(f) => Chained::Evaluate(f),
+        Evaluated::Done(_) => decode_on(circuit, z, material, wires, bits),
+    }
+}
+
+// Encode gets the first 16n bytes of the zero tokens and the one tokens, as garble wrote them.
+fn encode_on(
+    circuit: &[u8],
+    z: Sizes,
+    values: &[u8],
+    material: &[u8],
+    zeros: &[u8],
+    ones: &[u8],
+    tokens: &mut [u8],
+    wires: &mut [u8],
+    bits: &mut [u8],
+) -> Chained
+    requires { ⌜ EncodeStart (now circuit) z (now zeros) (now ones) ⌝ }
+    ensures { λ r. ⌜ EncodeOn (now (circuit .entry)) z (now (values .entry)) (now (material .entry)) (now (zeros .entry)) (now (ones .entry)) (now (tokens .entry)) (now (wires .entry)) (now (bits .entry)) r (now (tokens .exit)) (now (wires .exit)) (now (bits .exit)) ⌝ }
+{
+    let list = 16 * z.n;
+    match encode(circuit, values, &zeros[..list], &ones[..list], tokens) {
+        Ran::Refused(f) => Chained::Encode(f),
+        Ran::Done => evaluate_on(circuit, z, material, tokens, wires, bits),
+    }
+}
+
+// The chain, for every argument. Its contract is demand 3.
+pub fn chain(
+    circuit: &[u8],
+    seed: &[u8],
+    scheme: u8,
+    values: &[u8],
+    material: &mut [u8],
+    zeros: &mut [u8],
+    ones: &mut [u8],
+    tokens: &mut [u8],
+    wires: &mut [u8],
+    bits: &mut [u8],
+) -> Chained
+    ensures { λ r. ⌜ ChainIs (now (circuit .entry)) (now (seed .entry)) scheme (now (values .entry)) (now (material .entry)) (now (zeros .entry)) (now (ones .entry)) (now (tokens .entry)) (now (wires .entry)) (now (bits .entry)) r (now (material .exit)) (now (zeros .exit)) (now (ones .exit)) (now (tokens .exit)) (now (wires .exit)) (now (bits .exit)) ⌝ }
+{
+    match garble(circuit, seed, scheme, material, zeros, ones) {
+        Garbled::Refused(f) => Chained::Garble(f),
+        Garbled::Done { length, calls: _ } => match check(circuit) {
+            Checked::Refused(f) => Chained::Garble(f),
+            Checked::Accepted(z) => encode_on(circuit, z, values, &material[..length], zeros, ones, tokens, wires, bits),
+        },
+    }
+}
