@@ -20,6 +20,23 @@ use Rattle.circuit.proofs.PlainLaws.{all-bits}
 use Rattle.garble.specs.Answers.{encodeReady}
 use Rattle.garble.specs.Written.{EncodeStart}
 
+-- what it tells that nothing refuses
+pub encode-fine : (c v zs os o : List ℕ) → encodeVerdict c v zs os (length o) ≡ fine → EncodeStart (inputs c) v zs os o
+unfolding encodeVerdict tokensVerdict roomVerdict
+encode-fine c v zs os o e =
+    let a = then-fine _ _ e in
+    let b = then-fine _ _ (a .0) in
+    let d = then-fine _ _ (b .0) in
+    let f = then-fine _ _ (d .0) in
+    let g = then-fine _ _ (f .0) in
+    record {
+      values = eqb-true _ _ (not-false _ (refuse-fine _ _ _ (g .1)));
+      bits = all-bits v (f .1);
+      zeros = eqb-true _ _ (not-false _ (refuse-fine _ _ _ (d .1)));
+      ones = eqb-true _ _ (not-false _ (refuse-fine _ _ _ (b .1)));
+      room = ltb-false _ _ (refuse-fine _ _ _ (a .1));
+    }
+
 module _ (c v zs os o : List ℕ) (r : Ready) (is-r : readyOf r ≡ encodeReady c v zs os (length o)) where
   pub encode-refused : (f : Refusal) → r ≡ Ready.Refused f → EncodeIs c v zs os o (verdictOf f) o
   encode-refused f e = go (no-turned (encodeVerdict c v zs os (length o)) (verdictOf f) (sizesOf c) (rw e at is-r))
@@ -36,21 +53,7 @@ module _ (c v zs os o : List ℕ) (r : Ready) (is-r : readyOf r ≡ encodeReady 
     is-n = ap (λ (x : Sizes). x .n) (given .is-result)
 
     pub encode-go : EncodeStart (z .n) v zs os o
-    unfolding encodeVerdict tokensVerdict roomVerdict
-    encode-go =
-        let a = then-fine _ _ (given .is-fine) in
-        let b = then-fine _ _ (a .0) in
-        let d = then-fine _ _ (b .0) in
-        let f = then-fine _ _ (d .0) in
-        let g = then-fine _ _ (f .0) in
-        rw is-n
-        (record {
-          values = eqb-true _ _ (not-false _ (refuse-fine _ _ _ (g .1)));
-          bits = all-bits v (f .1);
-          zeros = eqb-true _ _ (not-false _ (refuse-fine _ _ _ (d .1)));
-          ones = eqb-true _ _ (not-false _ (refuse-fine _ _ _ (b .1)));
-          room = ltb-false _ _ (refuse-fine _ _ _ (a .1));
-        })
+    encode-go = rw is-n (encode-fine c v zs os o (given .is-fine))
 
     pub encode-done : (x : List ℕ) → x ≡ over (joinBlocks (encode v (cut (z .n) zs) (cut (z .n) os))) o → EncodeIs c v zs os o fine x
     unfolding encodeBytes circuitOf

@@ -41,6 +41,28 @@ four-calls k = go (eqb k 1) (eqb k 2)
     go false true = refl
     go false false = refl
 
+-- what it tells that nothing refuses
+pub garble-fine : (c seed : List ℕ) (scheme : ℕ) (m z o : List ℕ) → garbleVerdict c seed scheme (length m) (length z) (length o) ≡ fine
+    → WholeStart c seed scheme (sizesOf c) m z o
+unfolding garbleVerdict seedVerdict schemeVerdict roomVerdict
+garble-fine c seed scheme m z o e =
+    let a = then-fine _ _ e in
+    let b = then-fine _ _ (a .0) in
+    let d = then-fine _ _ (b .0) in
+    let f = then-fine _ _ (d .0) in
+    let g = then-fine _ _ (f .0) in
+    let h = and-both _ _ (not-false _ (refuse-fine _ _ _ (f .1))) in
+    record {
+      accepted = g .0;
+      sizes = refl;
+      seed-length = eqb-true _ _ (not-false _ (refuse-fine _ _ _ (g .1)));
+      scheme-low = leb-true _ _ (h .0);
+      scheme-high = leb-true _ _ (h .1);
+      file-room = ltb-false _ _ (refuse-fine _ _ _ (d .1));
+      wires-room = ltb-false _ _ (refuse-fine _ _ _ (b .1));
+      inputs-room = ltb-false _ _ (refuse-fine _ _ _ (a .1));
+    }
+
 module _ (c seed : List ℕ) (scheme : ℕ) (m z o : List ℕ) (r : Ready) (is-r : readyOf r ≡ garbleReady c seed scheme (length m) (length z) (length o)) where
   pub garble-refused : (f : Refusal) → r ≡ Ready.Refused f → GarbleIs c seed scheme m z o (no (verdictOf f)) m z o
   garble-refused f e = go (no-turned (garbleVerdict c seed scheme (length m) (length z) (length o)) (verdictOf f) (sizesOf c) (rw e at is-r))
@@ -61,24 +83,7 @@ module _ (c seed : List ℕ) (scheme : ℕ) (m z o : List ℕ) (r : Ready) (is-r
     is-p = ap (λ (x : Sizes). x .p) (given .is-result)
 
     pub garble-go : WholeStart c seed scheme s m z o
-    unfolding garbleVerdict seedVerdict schemeVerdict roomVerdict
-    garble-go =
-        let a = then-fine _ _ (given .is-fine) in
-        let b = then-fine _ _ (a .0) in
-        let d = then-fine _ _ (b .0) in
-        let f = then-fine _ _ (d .0) in
-        let g = then-fine _ _ (f .0) in
-        let h = and-both _ _ (not-false _ (refuse-fine _ _ _ (f .1))) in
-        record {
-          accepted = g .0;
-          sizes = given .is-result;
-          seed-length = eqb-true _ _ (not-false _ (refuse-fine _ _ _ (g .1)));
-          scheme-low = leb-true _ _ (h .0);
-          scheme-high = leb-true _ _ (h .1);
-          file-room = ltb-false _ _ (refuse-fine _ _ _ (d .1));
-          wires-room = ltb-false _ _ (refuse-fine _ _ _ (b .1));
-          inputs-room = ltb-false _ _ (refuse-fine _ _ _ (a .1));
-        }
+    garble-go = rw (given .is-result) (garble-fine c seed scheme m z o (given .is-fine))
 
     pub few-outputs : s .m ≤ 65535
     few-outputs = let h = accepted-header c (garble-go .accepted) in omega (arith, is-m, h .sizes .m-high, h .sizes .sum)

@@ -86,15 +86,34 @@ module _ (c seed : List ℕ) (scheme : ℕ) (values : List ℕ) (allowed : Allow
 
   -- ---- what the operations hand on
 
-  -- encode gets the inputs' zero and one tokens, and evaluate what was encoded
-  inputs-are : cut (circuitOf c .n) (chainInputs c seed scheme values) ≡ held
+  -- encode gets the inputs' zero and one tokens
+  inputs-are : chainInputs c seed scheme values ≡ joinBlocks held
   unfolding chainInputs encodeBytes chainZeros chainOnes held circuitOf
-  inputs-are =
-      rw (zero-tokens-begin γ, cut-join (input-zeros-blocks γ), cut-join (input-ones-blocks γ)) (cut-join (rw many at (tokens-blocks inputs-held)))
+  inputs-are = rw (zero-tokens-begin γ, cut-join (input-zeros-blocks γ), cut-join (input-ones-blocks γ))
 
+  held-blocks : Blocks (circuitOf c .n) held
+  held-blocks = rw many at (tokens-blocks inputs-held)
+
+  -- and evaluate what was encoded
   tokens-are : chainTokens c seed scheme values ≡ joinBlocks left
   unfolding chainTokens evaluateBytes left chainMaterial
-  tokens-are = rw inputs-are
+  tokens-are = rw (inputs-are, cut-join held-blocks)
+
+  -- how many bytes each of them is
+  pub inputs-long : length (chainInputs c seed scheme values) ≡ 16 * inputs c
+  unfolding circuitOf
+  inputs-long = rw inputs-are (join-length held-blocks)
+
+  pub tokens-long : length (chainTokens c seed scheme values) ≡ 16 * (inputs c + gates c)
+  tokens-long = rw (tokens-are, ← wires-many) (join-length left-blocks)
+
+  pub zeros-long : length (chainZeros c seed scheme values) ≡ 16 * (inputs c + gates c)
+  unfolding chainZeros
+  zeros-long = rw (← wires-many) (join-length (zero-tokens-blocks γ))
+
+  pub ones-long : length (chainOnes c seed scheme values) ≡ 16 * inputs c
+  unfolding chainOnes circuitOf
+  ones-long = join-length (input-ones-blocks γ)
 
   -- a wire's token, as it was left, and its zero token
   left-at : (w : ℕ) → 1 ≤ w → w ≤ inputs c + gates c → tokenAt (chainTokens c seed scheme values) w ≡ wire (block 0) left w
