@@ -4,14 +4,10 @@ use mathlib.Core.Path.{_≡_}
 use mathlib.Core.List.{List}
 use lib.ListN.{length, take, drop}
 use Rattle.model.specs.declared.Sizes.{Sizes}
-use Rattle.model.specs.Refusals.{fine, verdictOf, circuitVerdict}
-use Rattle.model.specs.Operations.{yes, no, sizesOf, evaluateCallsOf, EncodeIs, EvaluateIs, DecodeIs}
+use Rattle.model.specs.Refusals.{fine, verdictOf}
+use Rattle.model.specs.Operations.{yes, no, evaluateCallsOf, EncodeIs, EvaluateIs, DecodeIs}
+use Rattle.material.specs.Answers.{Accepted}
 use Rattle.chain.specs.declared.Chained.{Chained}
-
--- an accepted circuit and its sizes
-pub record Sized (c : List ℕ) (s : Sizes) : Type 0 where
-  pub accepted : circuitVerdict c ≡ fine
-  pub sizes : s ≡ sizesOf c
 
 -- ---- decode: "that material and evaluate's tokens of the m outputs"
 
@@ -20,7 +16,7 @@ unfoldable pub outputPart : Sizes → List ℕ → List ℕ
 outputPart s w = take (16 * s .m) (drop (16 * (s .n + s .q) - 16 * s .m) w)
 
 pub record DecodeStart (c : List ℕ) (s : Sizes) (w : List ℕ) : Type 0 where
-  pub sized : Sized c s
+  pub sized : Accepted c s
   pub all-wires : 16 * (s .n + s .q) ≤ length w
 
 abbrev pub DecodeOn : List ℕ → Sizes → List ℕ → List ℕ → List ℕ → Chained → List ℕ → Type 0
@@ -33,7 +29,7 @@ DecodeOn c s f w b (Chained.Evaluate e) b′ = ⊥
 -- ---- evaluate: "encode's bytes and garble's material"
 
 pub record EvaluateStart (c : List ℕ) (s : Sizes) (t : List ℕ) : Type 0 where
-  pub sized : Sized c s
+  pub sized : Accepted c s
   pub all-inputs : 16 * s .n ≤ length t
 
 -- evaluate ran, and decode after it
@@ -51,7 +47,7 @@ EvaluateOn c s f t w b (Chained.Encode e) w′ b′ = ⊥
 -- ---- encode: "the first 16n bytes of the zero tokens and the one tokens"
 
 pub record EncodeStart (c : List ℕ) (s : Sizes) (z o : List ℕ) : Type 0 where
-  pub sized : Sized c s
+  pub sized : Accepted c s
   pub all-zeros : 16 * s .n ≤ length z
   pub all-ones : 16 * s .n ≤ length o
 

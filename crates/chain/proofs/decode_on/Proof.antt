@@ -1,4 +1,5 @@
 use borrow.Author.Needs.{needs}
+use Rattle.chain.proofs.DecodeLaws.{decode-on-cases}
 use Rattle.chain.proofs.decode_on.Statement.{statement}
 use Rattle.chain.proofs.decode_on.Tie as tie
 use Rattle.chain.proofs.decode_on.Reads as reads
@@ -15,11 +16,11 @@ mul-end c = search needs
 
 -- src/lib.rt:31:22
 mul-from : tie.Need-mul-from
-mul-from c = ?
+mul-from c = search decode-on-cases
 
 -- src/lib.rt:31:16
 sub-from : tie.Need-sub-from
-sub-from c = ?
+sub-from c = search decode-on-cases
 
 -- src/lib.rt:32:27
 sub-decode : tie.Need-sub-decode
@@ -51,7 +52,7 @@ same-length c = search needs
 
 -- src/lib.rt:26:1
 returns : tie.Need-returns
-returns c = ?
+returns c = search decode-on-cases
 
 -- src/lib.rt:26:1
 same-length-2 : tie.Need-same-length-2
@@ -59,7 +60,7 @@ same-length-2 c = search needs
 
 -- src/lib.rt:26:1
 returns-2 : tie.Need-returns-2
-returns-2 c = ?
+returns-2 c = search decode-on-cases
 
 pub decode-on-spec : {M : Type 1} → statement M
 decode-on-spec =

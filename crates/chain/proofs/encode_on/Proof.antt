@@ -1,4 +1,5 @@
 use borrow.Author.Needs.{needs}
+use Rattle.chain.proofs.EncodeLaws.{encode-on-cases}
 use Rattle.chain.proofs.encode_on.Statement.{statement}
 use Rattle.chain.proofs.encode_on.Tie as tie
 use Rattle.chain.proofs.encode_on.Reads as reads
@@ -12,11 +13,11 @@ mul-list c = search needs
 
 -- src/lib.rt:66:35
 slice-aggregate-encode : tie.Need-slice-aggregate-encode
-slice-aggregate-encode c = ?
+slice-aggregate-encode c = search encode-on-cases
 
 -- src/lib.rt:66:51
 slice-aggregate-encode-2 : tie.Need-slice-aggregate-encode-2
-slice-aggregate-encode-2 c = ?
+slice-aggregate-encode-2 c = search encode-on-cases
 
 -- src/lib.rt:66:11
 encode-requires : tie.Need-encode-requires
@@ -32,7 +33,7 @@ enum-told c = search needs
 
 -- src/lib.rt:68:22
 evaluate-on-requires : tie.Need-evaluate-on-requires
-evaluate-on-requires c κs = ?
+evaluate-on-requires c κs = search encode-on-cases
 
 -- src/lib.rt:51:1
 same-length : tie.Need-same-length
@@ -40,7 +41,7 @@ same-length c = search needs
 
 -- src/lib.rt:51:1
 returns : tie.Need-returns
-returns c = ?
+returns c = (search encode-on-cases, search needs, search needs)
 
 -- src/lib.rt:51:1
 same-length-2 : tie.Need-same-length-2
@@ -56,7 +57,7 @@ same-length-4 c = search needs
 
 -- src/lib.rt:51:1
 returns-2 : tie.Need-returns-2
-returns-2 c = ?
+returns-2 c = search encode-on-cases
 
 pub encode-on-spec : {M : Type 1} → statement M
 encode-on-spec =

@@ -1,4 +1,5 @@
 use borrow.Author.Needs.{needs}
+use Rattle.chain.proofs.EvaluateLaws.{evaluate-on-cases}
 use Rattle.chain.proofs.evaluate_on.Statement.{statement}
 use Rattle.chain.proofs.evaluate_on.Tie as tie
 use Rattle.chain.proofs.evaluate_on.Reads as reads
@@ -12,7 +13,7 @@ mul-list c = search needs
 
 -- src/lib.rt:44:29
 slice-aggregate-evaluate : tie.Need-slice-aggregate-evaluate
-slice-aggregate-evaluate c = ?
+slice-aggregate-evaluate c = search evaluate-on-cases
 
 -- src/lib.rt:44:11
 evaluate-requires : tie.Need-evaluate-requires
@@ -28,7 +29,7 @@ enum-told c = search needs
 
 -- src/lib.rt:46:31
 decode-on-requires : tie.Need-decode-on-requires
-decode-on-requires c κs = ?
+decode-on-requires c κs = search evaluate-on-cases
 
 -- src/lib.rt:39:1
 same-length : tie.Need-same-length
@@ -36,7 +37,7 @@ same-length c = search needs
 
 -- src/lib.rt:39:1
 returns : tie.Need-returns
-returns c = ?
+returns c = (search evaluate-on-cases, search needs)
 
 -- src/lib.rt:39:1
 same-length-2 : tie.Need-same-length-2
@@ -48,7 +49,7 @@ same-length-3 c = search needs
 
 -- src/lib.rt:39:1
 returns-2 : tie.Need-returns-2
-returns-2 c = ?
+returns-2 c = search evaluate-on-cases
 
 pub evaluate-on-spec : {M : Type 1} → statement M
 evaluate-on-spec =

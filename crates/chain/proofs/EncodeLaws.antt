@@ -1,0 +1,54 @@
+-- `encode_on`: the two lists that encode gets, what it leaves for evaluate, and a law for each return. Assumes nothing.
+use Prim.Native.Nat.{ℕ, _+_, _*_, _≤_}
+use native.Mathlib.Omega.{arith}
+use mathlib.Core.Path.{_≡_, sym}
+use mathlib.Core.List.{List}
+use lib.ListN.{length, take}
+use lib.Seq.{length-take-le}
+use Rattle.model.specs.declared.Sizes.{Sizes}
+use Rattle.model.specs.declared.Refusal.{Refusal}
+use Rattle.model.specs.declared.Ran.{Ran}
+use Rattle.model.specs.Circuit.{circuitOf, inputs}
+use Rattle.model.specs.Evaluation.{encodeBytes}
+use Rattle.model.specs.Refusals.{fine, verdictOf}
+use Rattle.model.specs.Operations.{ranOf, encodeVerdict, EncodeIs}
+use Rattle.material.proofs.SizeLaws.{is-n}
+use Rattle.garble.proofs.EncodeIsLaws.{encode-fine}
+use Rattle.chain.specs.declared.Chained.{Chained}
+use Rattle.chain.specs.Parts.{EncodeStart, EvaluateStart, EvaluateOn, EncodeOn}
+use Rattle.chain.proofs.PartLaws.{over-long}
+
+module _ (c : List ℕ) (s : Sizes) (z o : List ℕ) (start : EncodeStart c s z o) where
+  pub zeros-front : 16 * s .n ≡ length (take (16 * s .n) z)
+  zeros-front = sym (length-take-le _ z (start .all-zeros))
+
+  pub ones-front : 16 * s .n ≡ length (take (16 * s .n) o)
+  ones-front = sym (length-take-le _ o (start .all-ones))
+
+  -- encode's answer q
+  module _ (v t : List ℕ) (q : Ran) (t′ : List ℕ) (answers : EncodeIs c v (take (16 * s .n) z) (take (16 * s .n) o) t (ranOf q) t′) where
+    pub encode-on-refused : (e : Refusal) → q ≡ Ran.Refused e → EncodeIs c v (take (16 * s .n) z) (take (16 * s .n) o) t (verdictOf e) t′
+    encode-on-refused e h = rw h at answers
+
+    module _ (h : q ≡ Ran.Done) where
+      ran : EncodeIs c v (take (16 * s .n) z) (take (16 * s .n) o) t fine t′
+      ran = rw h at answers
+
+      pub evaluate-ready : EvaluateStart c s t′
+      evaluate-ready =
+          let room = encode-fine c v (take (16 * s .n) z) (take (16 * s .n) o) t (sym (ran .answered)) .room in
+          record {
+            sized = start .sized;
+            all-inputs =
+                rw (is-n c s (start .sized), ran .left, ← ran .answered)
+                (omega (arith, room, over-long (encodeBytes (circuitOf c) v (take (16 * s .n) z) (take (16 * s .n) o)) t));
+          }
+
+      pub encode-on-done : (f w b : List ℕ) (r : Chained) (w′ b′ : List ℕ) → EvaluateOn c s f t′ w b r w′ b′ → EncodeOn c s v f z o t w b r t′ w′ b′
+      encode-on-done f w b (Chained.Decode e) w′ b′ d = record { encode-is = ran; evaluate-on = d }
+      encode-on-done f w b (Chained.Evaluate e) w′ b′ d = record { encode-is = ran; evaluate-on = d }
+      encode-on-done f w b Chained.Done w′ b′ d = record { encode-is = ran; evaluate-on = d }
+      encode-on-done f w b (Chained.Garble e) w′ b′ d = d
+      encode-on-done f w b (Chained.Encode e) w′ b′ d = absurd d
+
+pub ruleset encode-on-cases = (zeros-front, ones-front, encode-on-refused, evaluate-ready, encode-on-done)

@@ -1,0 +1,53 @@
+-- `evaluate_on`: the tokens that evaluate gets, what it leaves for decode, and a law for each return. Assumes nothing.
+use Prim.Native.Nat.{ℕ, _+_, _*_, _≤_}
+use native.Mathlib.Omega.{arith}
+use mathlib.Core.Path.{_≡_, sym}
+use mathlib.Core.List.{List}
+use lib.ListN.{length, take}
+use lib.Seq.{length-take-le}
+use Rattle.model.specs.declared.Sizes.{Sizes}
+use Rattle.model.specs.declared.Refusal.{Refusal}
+use Rattle.model.specs.declared.Evaluated.{Evaluated}
+use Rattle.model.specs.Circuit.{circuitOf, inputs, gates}
+use Rattle.model.specs.Evaluation.{evaluateBytes}
+use Rattle.model.specs.Refusals.{fine, verdictOf}
+use Rattle.model.specs.Operations.{no, yes, evaluatedOf, evaluateVerdict, evaluateCallsOf, EvaluateIs}
+use Rattle.model.proofs.Verdicts.{Given, yes-given, then-fine}
+use Rattle.material.proofs.SizeLaws.{is-n, is-q}
+use Rattle.evaluate.proofs.ReadyLaws.{evaluate-verdict, rest-holds}
+use Rattle.chain.specs.declared.Chained.{Chained}
+use Rattle.chain.specs.Parts.{EvaluateStart, DecodeStart, DecodeOn, EvaluateOn}
+use Rattle.chain.proofs.PartLaws.{over-long}
+
+module _ (c : List ℕ) (s : Sizes) (t : List ℕ) (start : EvaluateStart c s t) where
+  pub tokens-front : 16 * s .n ≡ length (take (16 * s .n) t)
+  tokens-front = sym (length-take-le _ t (start .all-inputs))
+
+  -- evaluate's answer q
+  module _ (f w : List ℕ) (q : Evaluated) (w′ : List ℕ) (answers : EvaluateIs c (take (16 * s .n) t) f w (evaluatedOf q) w′) where
+    pub evaluate-on-refused : (e : Refusal) → q ≡ Evaluated.Refused e → EvaluateIs c (take (16 * s .n) t) f w (no (verdictOf e)) w′
+    evaluate-on-refused e h = rw h at answers
+
+    module _ (k : ℕ) (h : q ≡ Evaluated.Done k) where
+      told : Given (evaluateVerdict c (take (16 * s .n) t) f (length w)) k (evaluateCallsOf c f)
+      told = yes-given _ k (evaluateCallsOf c f) (let e = answers .answered in rw h at e)
+
+      pub decode-ready : DecodeStart c s w′
+      decode-ready =
+          let a = then-fine _ _ (rw (evaluate-verdict c (take (16 * s .n) t) f (length w)) at (told .is-fine)) .1 in
+          let room = rest-holds c (inputs c) _ f _ _ a .roomy in
+          record {
+            sized = start .sized;
+            all-wires =
+                rw (is-n c s (start .sized), is-q c s (start .sized), answers .left, told .is-fine)
+                (omega (arith, room, over-long (evaluateBytes (circuitOf c) (take (16 * s .n) t) f) w));
+          }
+
+      pub evaluate-on-done : (b : List ℕ) (r : Chained) (b′ : List ℕ) → DecodeOn c s f w′ b r b′ → EvaluateOn c s f t w b r w′ b′
+      evaluate-on-done b (Chained.Decode e) b′ d = record { evaluate-is = rw (h, told .is-result) at answers; decode-is = d }
+      evaluate-on-done b Chained.Done b′ d = record { evaluate-is = rw (h, told .is-result) at answers; decode-is = d }
+      evaluate-on-done b (Chained.Garble e) b′ d = d
+      evaluate-on-done b (Chained.Encode e) b′ d = d
+      evaluate-on-done b (Chained.Evaluate e) b′ d = absurd d
+
+pub ruleset evaluate-on-cases = (tokens-front, evaluate-on-refused, decode-ready, evaluate-on-done)
