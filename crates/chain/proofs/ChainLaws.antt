@@ -1,1 +1,99 @@
+-- `chain`: what garble leaves for the calls after it, and a law for each return. Assumes nothing.
+use Prim.Native.Nat.{ℕ, _+_, _*_, _≤_}
+use native.Mathlib.Omega.{arith}
+use mathlib.Core.Path.{_≡_, refl, sym, ap, _∙_}
+use mathlib.Core.List.{List}
+use lib.ListN.{length, take}
+use lib.Seq.{length-take-le}
+use Rattle.model.specs.declared.Sizes.{Sizes}
+use Rattle.model.specs.declared.Refusal.{Refusal}
+use Rattle.model.specs.declared.Checked.{Checked}
+use Rattle.model.specs.declared.Garbled.{Garbled}
+use Rattle.model.specs.Circuit.{charges, circuitOf, inputs, outputs, gates}
+use Rattle.model.specs.Tokens.{garblingOf}
+use Rattle.model.specs.Garbling.{zeroTokens, inputOnes}
+use Rattle.model.specs.Material.{joinBlocks, material, materialLength}
+use Rattle.model.specs.Refusals.{fine, refused, verdictOf, circuitVerdict}
+use Rattle.model.specs.Operations.{Made, made, no, yes, sizesOf, checkedOf, checkAnswer, garbledOf, garbleVerdict, garbleMade, GarbleIs}
+use Rattle.model.proofs.Verdicts.{Turned, no-turned, yes-given}
+use Rattle.material.specs.Answers.{Accepted}
+use Rattle.material.proofs.SizeLaws.{check-accepted, is-n}
+use Rattle.garble.specs.Whole.{WholeStart}
+use Rattle.garble.proofs.GarbleIsLaws.{garble-fine}
+use Rattle.chain.specs.declared.Chained.{Chained}
+use Rattle.chain.specs.Parts.{EncodeStart, EncodeOn}
+use Rattle.chain.specs.Chain.{EndedAtGarble, ChainIs}
+use Rattle.chain.proofs.PartLaws.{over-long}
+use Rattle.chain.proofs.RightLaws.{ended}
 
+abbrev lengthOf : Made → ℕ
+lengthOf (made l k) = l
+
+-- a verdict is not both
+other : (i x : ℕ) → fine ≡ refused i x → ⊥
+other i x e = absurd (let z : _≡_ {A = ℕ} 0 1 = cc in omega arith)
+
+module _ (c seed : List ℕ) (scheme : ℕ) (f z o : List ℕ) (g : Garbled) (f′ z′ o′ : List ℕ) (answers : GarbleIs c seed scheme f z o (garbledOf g) f′ z′ o′) where
+  pub garble-refused : (e : Refusal) → g ≡ Garbled.Refused e → (v t w b : List ℕ)
+      → EndedAtGarble c seed scheme v f z o t w b f′ z′ o′ t w b (verdictOf e)
+  garble-refused e h v t w b = record { garble-is = rw h at answers; tokens-kept = refl; wires-kept = refl; bits-kept = refl }
+
+  -- garble ran
+  module _ (l k : ℕ) (h : g ≡ Garbled.Done l k) where
+    was-fine : garbleVerdict c seed scheme (length f) (length z) (length o) ≡ fine
+    was-fine =
+        yes-given (garbleVerdict c seed scheme (length f) (length z) (length o)) (made l k) (garbleMade c scheme)
+        (let a = answers .answered in rw h at a) .is-fine
+
+    is-made : made l k ≡ garbleMade c scheme
+    is-made =
+        yes-given (garbleVerdict c seed scheme (length f) (length z) (length o)) (made l k) (garbleMade c scheme)
+        (let a = answers .answered in rw h at a) .is-result
+
+    is-length : l ≡ materialLength scheme (outputs c) (charges (circuitOf c .gates))
+    unfolding garbleMade
+    is-length = ap lengthOf is-made
+
+    start : WholeStart c seed scheme (sizesOf c) f z o
+    start = garble-fine c seed scheme f z o was-fine
+
+    ran : GarbleIs c seed scheme f z o (yes (garbleMade c scheme)) f′ z′ o′
+    ran = rw (h, is-made) at answers
+
+    pub material-among : l ≤ length f′
+    material-among =
+        rw (is-length, answers .material-left, was-fine)
+        (omega (arith, start .file-room, over-long (material (garblingOf c seed scheme)) f))
+
+    pub material-front : l ≡ length (take l f′)
+    material-front = sym (length-take-le l f′ material-among)
+
+    -- and check after it
+    module _ (q : Checked) (is-q : checkedOf q ≡ checkAnswer c) where
+      -- it cannot refuse what garble accepted
+      pub check-refused : (e : Refusal) → q ≡ Checked.Refused e → (v t w b : List ℕ)
+          → EndedAtGarble c seed scheme v f z o t w b f′ z′ o′ t w b (verdictOf e)
+      check-refused e j v t w b =
+          let d = no-turned (circuitVerdict c) (verdictOf e) (sizesOf c) (rw j at is-q) in
+          absurd (other _ _ (sym (start .accepted) ∙ d .is-v))
+
+      module _ (s : Sizes) (j : q ≡ Checked.Accepted s) where
+        known : Accepted c s
+        known = check-accepted c q is-q s j
+
+        pub encode-ready : EncodeStart c s z′ o′
+        encode-ready = record {
+          sized = known;
+          all-zeros =
+              rw (is-n c s known, answers .zeros-left, was-fine)
+              (omega (arith, start .wires-room, over-long (joinBlocks (zeroTokens (garblingOf c seed scheme))) z));
+          all-ones =
+              rw (is-n c s known, answers .ones-left, was-fine)
+              (omega (arith, start .inputs-room, over-long (joinBlocks (inputOnes (garblingOf c seed scheme))) o));
+        }
+
+        pub chain-done : (v t w b : List ℕ) (r : Chained) (t′ w′ b′ : List ℕ) → EncodeOn c s v (take l f′) z′ o′ t w b r t′ w′ b′
+            → ChainIs c seed scheme v f z o t w b r f′ z′ o′ t′ w′ b′
+        chain-done v t w b r t′ w′ b′ e = ended c seed scheme v f z o t w b f′ z′ o′ t′ w′ b′ ran r (rw (is-length, known .sizes) at e)
+
+pub ruleset chain-cases = (garble-refused, material-among, material-front, check-refused, encode-ready, chain-done)

@@ -8,10 +8,12 @@ use Rattle.model.specs.Aes.{Block}
 use Rattle.model.specs.Tokens.{distance}
 use Rattle.model.specs.Evaluation.{tokenAt}
 use Rattle.model.specs.Refusals.{fine}
-use Rattle.model.specs.Operations.{garbleMade}
+use Rattle.model.specs.Operations.{sizesOf, garbleMade}
 use Rattle.model.specs.Demand3.{distanceAt, chainZeros, chainTokens}
 use Rattle.model.proofs.Demand3.{tokens-long, zeros-long, demand-3}
-use Rattle.chain.specs.Chain.{WiresRight, BitsRight, GarbleRan, EncodeAnswers, EvaluateRan, DecodeAnswers}
+use Rattle.chain.specs.declared.Chained.{Chained}
+use Rattle.chain.specs.Parts.{EncodeOn, outputPart}
+use Rattle.chain.specs.Chain.{WiresRight, BitsRight, file, GarbleRan, EncodeAnswers, EvaluateRan, DecodeAnswers, ChainIs}
 use Rattle.chain.proofs.PartLaws.{token-over}
 use Rattle.chain.proofs.HandLaws.{allowed, zeros-are, wires-are, bits-handed}
 
@@ -23,8 +25,12 @@ module _ (c seed : List ℕ) (scheme : ℕ) (v f z o t w b f′ z′ o′ t′ w
   unfolding distanceAt
   distance-is k l h =
       let a = allowed c seed scheme f z o f′ z′ o′ (garbleMade c scheme) garbled v t t′ encoded in
-      rw (wires-are c seed scheme f z o f′ z′ o′ (garbleMade c scheme) garbled v t t′ encoded w w′ evaluated, zeros-are c seed scheme f z o f′ z′ o′ (garbleMade c scheme) garbled v,
-      token-over (chainTokens c seed scheme v) w k l (omega (arith, tokens-long c seed scheme v a)), token-over (chainZeros c seed scheme v) z k l (omega (arith, zeros-long c seed scheme v a)))
+      rw (
+        wires-are c seed scheme f z o f′ z′ o′ (garbleMade c scheme) garbled v t t′ encoded w w′ evaluated,
+        zeros-are c seed scheme f z o f′ z′ o′ (garbleMade c scheme) garbled v,
+        token-over (chainTokens c seed scheme v) w k l (omega (arith, tokens-long c seed scheme v a)),
+        token-over (chainZeros c seed scheme v) z k l (omega (arith, zeros-long c seed scheme v a)),
+      )
 
   pub wires-right : WiresRight c seed scheme v z′ w′
   wires-right =
@@ -39,3 +45,36 @@ module _ (c seed : List ℕ) (scheme : ℕ) (v f z o t w b f′ z′ o′ t′ w
   bits-right decoded = record {
     decoded = bits-handed c seed scheme f z o f′ z′ o′ (garbleMade c scheme) garbled v t t′ encoded w w′ evaluated b b′ decoded;
   }
+
+-- ---- where the chain ended, from what the calls after garble did
+module _ (c seed : List ℕ) (scheme : ℕ) (v f z o t w b f′ z′ o′ t′ w′ b′ : List ℕ) (ran : GarbleRan c seed scheme v f z o t w b f′ z′ o′ t′ w′ b′) where
+  pub ended : (r : Chained) → EncodeOn c (sizesOf c) v (file c seed scheme v f z o t w b f′ z′ o′ t′ w′ b′) z′ o′ t w b r t′ w′ b′
+      → ChainIs c seed scheme v f z o t w b r f′ z′ o′ t′ w′ b′
+  unfolding sizesOf outputPart
+  ended (Chained.Garble x) d = absurd d
+  ended (Chained.Encode x) d = record { garble-ran = ran; encode-is = d .0; wires-kept = d .1; bits-kept = d .2 }
+  ended (Chained.Evaluate x) d = record {
+    garble-ran = ran;
+    encode-ran = d .encode-is;
+    evaluate-is = d .evaluate-on .0;
+    bits-kept = d .evaluate-on .1;
+  }
+  ended (Chained.Decode x) d =
+      let e = d .evaluate-on in
+      record {
+        garble-ran = ran;
+        encode-ran = d .encode-is;
+        evaluate-ran = e .evaluate-is;
+        decode-is = e .decode-is;
+        wires-right = wires-right c seed scheme v f z o t w b f′ z′ o′ t′ w′ b′ ran (d .encode-is) (e .evaluate-is);
+      }
+  ended Chained.Done d =
+      let e = d .evaluate-on in
+      record {
+        garble-ran = ran;
+        encode-ran = d .encode-is;
+        evaluate-ran = e .evaluate-is;
+        decode-ran = e .decode-is;
+        wires-right = wires-right c seed scheme v f z o t w b f′ z′ o′ t′ w′ b′ ran (d .encode-is) (e .evaluate-is);
+        bits-right = bits-right c seed scheme v f z o t w b f′ z′ o′ t′ w′ b′ ran (d .encode-is) (e .evaluate-is) (e .decode-is);
+      }

@@ -36,7 +36,14 @@ fn decode_on(circuit: &[u8], z: Sizes, material: &[u8], wires: &[u8], bits: &mut
 }
 
 // Evaluate gets encode's bytes, 16 for each input, and garble's material.
-fn evaluate_on(circuit: &[u8], z: Sizes, material: &[u8], tokens: &[u8], wires: &mut [u8], bits: &mut [u8]) -> Chained
+fn evaluate_on(
+    circuit: &[u8],
+    z: Sizes,
+    material: &[u8],
+    tokens: &[u8],
+    wires: &mut [u8],
+    bits: &mut [u8],
+) -> Chained
     requires { ⌜ EvaluateStart (now circuit) z (now tokens) ⌝ }
     ensures { λ r. ⌜ EvaluateOn (now (circuit .entry)) z (now (material .entry)) (now (tokens .entry)) (now (wires .entry)) (now (bits .entry)) r (now (wires .exit)) (now (bits .exit)) ⌝ }
 {
@@ -88,7 +95,17 @@ pub fn chain(
         Garbled::Refused(f) => Chained::Garble(f),
         Garbled::Done { length, calls: _ } => match check(circuit) {
             Checked::Refused(f) => Chained::Garble(f),
-            Checked::Accepted(z) => encode_on(circuit, z, values, &material[..length], zeros, ones, tokens, wires, bits),
+            Checked::Accepted(z) => encode_on(
+                circuit,
+                z,
+                values,
+                &material[..length],
+                zeros,
+                ones,
+                tokens,
+                wires,
+                bits,
+            ),
         },
     }
 }
