@@ -3,23 +3,27 @@ use Prim.Native.Nat.{ℕ, _+_, _*_, _-_, _≤_}
 use native.Mathlib.Omega.{arith}
 use mathlib.Core.Path.{_≡_, refl, sym, ap₂, _∙_}
 use mathlib.Core.List.{List, [], _∷_, _++_, map, append-assoc, append-nil}
+use borrow.Author.Tests.{le-ltb, le-leb, eq-eqb}
 use lib.ListN.{length, take}
-use lib.Seq.{take-at}
+use lib.Seq.{take-at, length-take-le}
 use Rattle.model.specs.declared.Gate.{Gate}
-use Rattle.model.specs.Circuit.{inputs, gates, gateAt, circuitOf, wire, wires, plainValues}
+use Rattle.model.specs.Circuit.{inputs, outputs, gates, gateAt, lastWires, circuitOf, wire, wires, plainValues}
 use Rattle.model.specs.Aes.{Block, block}
 use Rattle.model.specs.Tokens.{Garbling, offset, inputZeros}
 use Rattle.model.specs.Garbling.{zeroStep, zeroTokens, inputOnes}
 use Rattle.model.specs.Material.{joinBlocks, material}
 use Rattle.model.specs.Evaluation.{cut, encode, evaluate, decode, encodeBytes, evaluateBytes, decodeBytes, tokenAt, outputTokens}
-use Rattle.model.specs.Demand3.{Allowed, chained, chainMaterial, chainZeros, chainOnes, chainInputs, chainTokens, chainBits, carries, distanceAt, Demand3}
+use Rattle.model.specs.Demand3.{Allowed, chained, chainMaterial, chainZeros, chainOnes, chainInputs, chainTokens, chainBits, carries, distanceAt, Demand3, OnlyRoom}
+use Rattle.model.specs.Refusals.{fine, refuse, _then_, circuitVerdict, seedVerdict, valueVerdict, bitsVerdict, tokensVerdict, schemeVerdict, materialVerdict, roomVerdict}
+use Rattle.model.specs.Operations.{garbleVerdict, encodeVerdict, evaluateVerdict, decodeVerdict}
 use Rattle.model.proofs.Lists.{tabulate-length}
 use Rattle.model.proofs.Tokens.{offset-is}
 use Rattle.model.proofs.Blocks as B
 use Rattle.model.proofs.Blocks.{Blocks, blocks-wide, join-length, join-append, cut-join, token-at-wire}
-use Rattle.model.proofs.Accepted.{Within, none, more, CircuitHolds, accepted-circuit}
+use Rattle.model.proofs.Accepted.{Within, none, more, CircuitHolds, accepted-circuit, accepted-header}
 use Rattle.model.proofs.Lengths.{input-zeros-blocks, input-ones-blocks, zero-tokens-blocks}
 use Rattle.model.proofs.Holds.{Holds, holds-distances, AllHold, hold-at, tokens-blocks}
+use Rattle.model.proofs.OwnMaterial.{first-all, own-material}
 use Rattle.model.proofs.Chain.{decode-holds, material-ends, inputs-hold, wires-hold, plain-length}
 
 -- ---- the tokens of some wires, from bytes
@@ -84,6 +88,10 @@ module _ (c seed : List ℕ) (scheme : ℕ) (values : List ℕ) (allowed : Allow
   unfolding circuitOf
   wires-many = rw (tabulate-length (gates c) (gateAt c))
 
+  outputs-many : length (circuitOf c .outputs) ≡ outputs c
+  unfolding circuitOf lastWires
+  outputs-many = tabulate-length (outputs c) _
+
   -- ---- what the operations hand on
 
   -- encode gets the inputs' zero and one tokens
@@ -135,6 +143,38 @@ module _ (c seed : List ℕ) (scheme : ℕ) (values : List ℕ) (allowed : Allow
       let within = holds .outputs-within in
       rw (tokens-are, tokens-at left-blocks within, cut-join (wires-blocks left-blocks within), material-ends γ)
       (decode-holds (offset-is γ) all-held {ws = circuitOf c .outputs} (rw as-many within))
+
+  -- ---- nothing but 19 refuses what is handed on
+
+  outputs-long : length (outputTokens (circuitOf c) (chainTokens c seed scheme values)) ≡ 16 * outputs c
+  unfolding outputTokens
+  outputs-long =
+      let within = holds .outputs-within in
+      rw (tokens-are, tokens-at left-blocks within, ← outputs-many) (join-length (wires-blocks left-blocks within))
+
+  material-fine : materialVerdict (circuitOf c) (chainMaterial c seed scheme values) ≡ fine
+  unfolding chainMaterial
+  material-fine =
+      let h = accepted-header c (allowed .accepted) .sizes in
+      own-material γ (allowed .scheme-low) (allowed .scheme-high) (rw wires-many (h .sum)) (rw outputs-many (omega (arith, h .m-high, h .sum)))
+
+  bits-fine : bitsVerdict values ≡ fine
+  unfolding valueVerdict refuse
+  bits-fine = first-all _ (length values) (λ i h. rw (le-ltb _ _ (allowed .bits i)))
+
+  zeros-front : length (take (16 * inputs c) (chainZeros c seed scheme values)) ≡ 16 * inputs c
+  zeros-front = length-take-le _ _ (omega (arith, zeros-long))
+
+  pub only-room : OnlyRoom c seed scheme values
+  unfolding garbleVerdict encodeVerdict evaluateVerdict decodeVerdict seedVerdict schemeVerdict tokensVerdict refuse _then_
+  only-room = record {
+    garble-room = λ km kz ko.
+        simp (allowed .accepted, eq-eqb _ _ (allowed .seed-bytes), le-leb _ _ (allowed .scheme-low), le-leb _ _ (allowed .scheme-high));
+    encode-room = λ k.
+        simp (allowed .accepted, eq-eqb _ _ (allowed .one-each), bits-fine, eq-eqb _ _ zeros-front, eq-eqb _ _ ones-long);
+    evaluate-room = λ k. simp (allowed .accepted, eq-eqb _ _ inputs-long, material-fine);
+    decode-room = λ k. simp (allowed .accepted, eq-eqb _ _ outputs-long, material-fine);
+  }
 
 -- The theorem.
 pub demand-3 : (c seed : List ℕ) (scheme : ℕ) (values : List ℕ) → Allowed c seed scheme values → Demand3 c seed scheme values

@@ -25,4 +25,5 @@ pub mod Holds
 pub mod Lengths
 pub mod OneMore
 pub mod Chain
+pub mod OwnMaterial
 pub mod Demand3

@@ -4,13 +4,14 @@ use mathlib.Core.Path.{_≡_}
 use mathlib.Core.Logic.{_↔_}
 use mathlib.Core.List.{List, map}
 use lib.ListN.{length, getD, take}
-use Rattle.model.specs.Circuit.{Circuit, circuitOf, inputs, gates, wire, plainValues}
+use Rattle.model.specs.Circuit.{Circuit, charges, circuitOf, inputs, outputs, gates, wire, plainValues}
 use Rattle.model.specs.Aes.{Block, block}
 use Rattle.model.specs.Tokens.{Garbling, garblingOf, distance, offset}
 use Rattle.model.specs.Garbling.{zeroTokens, inputOnes}
-use Rattle.model.specs.Material.{joinBlocks, material}
+use Rattle.model.specs.Material.{joinBlocks, material, materialLength}
 use Rattle.model.specs.Evaluation.{encodeBytes, evaluateBytes, decodeBytes, tokenAt, outputTokens}
-use Rattle.model.specs.Refusals.{fine, circuitVerdict}
+use Rattle.model.specs.Refusals.{fine, _then_, circuitVerdict, roomVerdict}
+use Rattle.model.specs.Operations.{garbleVerdict, encodeVerdict, evaluateVerdict, decodeVerdict}
 
 -- "every accepted circuit, each scheme, every 16-byte seed and every list of input bits, one for each input"
 pub record Allowed (c seed : List ℕ) (scheme : ℕ) (values : List ℕ) : Type 0 where
@@ -62,3 +63,13 @@ module _ (c seed : List ℕ) (scheme : ℕ) (values : List ℕ) where
     pub at-zero : (w : ℕ) → 1 ≤ w → w ≤ inputs c + gates c → (distanceAt w ≡ block 0) ↔ (carries w ≡ 0)
     pub at-one : (w : ℕ) → 1 ≤ w → w ≤ inputs c + gates c → (distanceAt w ≡ offset chained) ↔ (carries w ≡ 1)
     pub decoded : chainBits ≡ map carries (circuitOf c .outputs)
+
+  -- "With the arguments that demand 3 names, only 19 can refuse one of the four": each says what its buffers' rooms say
+  pub record OnlyRoom : Type 0 where
+    pub garble-room : (km kz ko : ℕ) → garbleVerdict c seed scheme km kz ko
+        ≡ (roomVerdict (materialLength scheme (outputs c) (charges (circuitOf c .gates))) km
+          then roomVerdict (16 * (inputs c + gates c)) kz
+          then roomVerdict (16 * inputs c) ko)
+    pub encode-room : (k : ℕ) → encodeVerdict c values (take (16 * inputs c) chainZeros) chainOnes k ≡ roomVerdict (16 * inputs c) k
+    pub evaluate-room : (k : ℕ) → evaluateVerdict c chainInputs chainMaterial k ≡ roomVerdict (16 * (inputs c + gates c)) k
+    pub decode-room : (k : ℕ) → decodeVerdict c (outputTokens (circuitOf c) chainTokens) chainMaterial k ≡ roomVerdict (outputs c) k
