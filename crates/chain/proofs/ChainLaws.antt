@@ -24,6 +24,7 @@ use Rattle.chain.specs.declared.Chained.{Chained}
 use Rattle.chain.specs.Parts.{EncodeStart, EncodeOn}
 use Rattle.chain.specs.Chain.{EndedAtGarble, ChainIs}
 use Rattle.chain.proofs.PartLaws.{over-long}
+use Rattle.chain.proofs.HandLaws as H
 use Rattle.chain.proofs.RightLaws.{ended}
 
 abbrev lengthOf : Made → ℕ
@@ -36,7 +37,15 @@ other i x e = absurd (let z : _≡_ {A = ℕ} 0 1 = cc in omega arith)
 module _ (c seed : List ℕ) (scheme : ℕ) (f z o : List ℕ) (g : Garbled) (f′ z′ o′ : List ℕ) (answers : GarbleIs c seed scheme f z o (garbledOf g) f′ z′ o′) where
   pub garble-refused : (e : Refusal) → g ≡ Garbled.Refused e → (v t w b : List ℕ)
       → EndedAtGarble c seed scheme v f z o t w b f′ z′ o′ t w b (verdictOf e)
-  garble-refused e h v t w b = record { garble-is = rw h at answers; tokens-kept = refl; wires-kept = refl; bits-kept = refl }
+  garble-refused e h v t w b =
+      let refused-by : GarbleIs c seed scheme f z o (no (verdictOf e)) f′ z′ o′ = rw h at answers in
+      record {
+        garble-is = refused-by;
+        only-19 = H.garble-refused c seed scheme v f z o f′ z′ o′ _ _ refused-by;
+        tokens-kept = refl;
+        wires-kept = refl;
+        bits-kept = refl;
+      }
 
   -- garble ran
   module _ (l k : ℕ) (h : g ≡ Garbled.Done l k) where

@@ -3,25 +3,53 @@ use Prim.Native.Nat.{ℕ, _+_, _*_, _-_, _≤_}
 use native.Mathlib.Omega.{arith}
 use mathlib.Core.Path.{_≡_, sym, ap, _∙_}
 use mathlib.Core.List.{List, map}
+use mathlib.Core.Bool.{Bool, true, false}
+use lib.Dec.{ltb}
 use lib.ListN.{length, take, drop, length-map}
 use Rattle.model.specs.Bytes.{over}
 use Rattle.model.specs.Circuit.{charges, circuitOf, inputs, outputs, gates}
 use Rattle.model.specs.Tokens.{garblingOf}
 use Rattle.model.specs.Material.{materialLength, material}
 use Rattle.model.specs.Evaluation.{encodeBytes, evaluateBytes, decodeBytes}
-use Rattle.model.specs.Refusals.{fine}
-use Rattle.model.specs.Operations.{yes, sizesOf, Made, garbleVerdict, garbleMade, encodeVerdict, evaluateVerdict, evaluateCallsOf, decodeVerdict, GarbleIs, EncodeIs, EvaluateIs, DecodeIs}
+use Rattle.model.specs.Refusals.{Verdict, fine, refused, refuse, _then_, roomVerdict}
+use Rattle.model.specs.Operations.{no, yes, sizesOf, Made, garbleVerdict, garbleMade, encodeVerdict, evaluateVerdict, evaluateCallsOf, decodeVerdict, GarbleIs, EncodeIs, EvaluateIs, DecodeIs}
 use Rattle.model.specs.Demand3.{Allowed, chainMaterial, chainZeros, chainOnes, chainInputs, chainTokens, chainBits, carries}
-use Rattle.model.proofs.Verdicts.{yes-given}
+use Rattle.model.proofs.Verdicts.{yes-given, no-turned}
 use Rattle.model.proofs.Accepted.{accepted-header}
 use Rattle.model.proofs.Lengths.{material-length}
-use Rattle.model.proofs.Demand3.{inputs-long, tokens-long, zeros-long, ones-long, demand-3}
+use Rattle.model.proofs.Demand3.{inputs-long, tokens-long, zeros-long, ones-long, only-room, demand-3}
 use Rattle.material.proofs.SizeLaws.{outputs-many}
 use Rattle.garble.specs.Whole.{WholeStart}
 use Rattle.garble.specs.Written.{EncodeStart}
 use Rattle.garble.proofs.GarbleIsLaws.{garble-fine}
 use Rattle.garble.proofs.EncodeIsLaws.{encode-fine}
+use Rattle.chain.specs.Chain.{IsRoom}
 use Rattle.chain.proofs.PartLaws.{whole-front, front-part, inner-part, output-part}
+
+-- ---- a refusal that the rooms give is 19
+
+refuse-19 : (b : Bool) (n i x : ℕ) → refused i x ≡ refuse b 19 n → IsRoom (refused i x)
+unfolding refuse
+refuse-19 true n i x e = record { needed = n; is-19 = e }
+refuse-19 false n i x e = absurd (let z : _≡_ {A = ℕ} 0 1 = cc in omega arith)
+
+room-only : (a k i x : ℕ) → refused i x ≡ roomVerdict a k → IsRoom (refused i x)
+unfolding roomVerdict
+room-only a k i x e = refuse-19 (ltb k a) a i x e
+
+then-only : (v w : Verdict) (i x : ℕ) → (refused i x ≡ v → IsRoom (refused i x)) → (refused i x ≡ w → IsRoom (refused i x))
+    → refused i x ≡ (v then w) → IsRoom (refused i x)
+unfolding _then_
+then-only fine w i x f g e = g e
+then-only (refused j y) w i x f g e = f e
+
+-- ---- garble refused
+pub garble-refused : (c seed : List ℕ) (scheme : ℕ) (v f z o f′ z′ o′ : List ℕ) (i x : ℕ)
+    → GarbleIs c seed scheme f z o (no (refused i x)) f′ z′ o′ → Allowed c seed scheme v → IsRoom (refused i x)
+garble-refused c seed scheme v f z o f′ z′ o′ i x answers permitted =
+    let d = no-turned (garbleVerdict c seed scheme (length f) (length z) (length o)) (refused i x) (garbleMade c scheme) (answers .answered) in
+    then-only _ _ i x (then-only _ _ i x (room-only _ _ i x) (room-only _ _ i x)) (room-only _ _ i x)
+    (d .is-w ∙ sym (d .is-v) ∙ only-room c seed scheme v permitted .garble-room (length f) (length z) (length o))
 
 -- ---- garble ran
 module _ (c seed : List ℕ) (scheme : ℕ) (f z o f′ z′ o′ : List ℕ) (made : Made) (ran : GarbleIs c seed scheme f z o (yes made) f′ z′ o′) where
@@ -50,6 +78,18 @@ module _ (c seed : List ℕ) (scheme : ℕ) (f z o f′ z′ o′ : List ℕ) (m
   unfolding chainOnes
   ones-are v = ran .ones-left ∙ rw was-fine
 
+  -- the two lists that encode gets
+  module _ (v : List ℕ) (permitted : Allowed c seed scheme v) where
+    zeros-handed : take (16 * inputs c) z′ ≡ take (16 * inputs c) (chainZeros c seed scheme v)
+    zeros-handed = rw (zeros-are v) (front-part (chainZeros c seed scheme v) z (16 * inputs c) (omega (arith, zeros-long c seed scheme v permitted)))
+
+    ones-handed : take (16 * inputs c) o′ ≡ chainOnes c seed scheme v
+    ones-handed = rw (ones-are v) (whole-front _ o _ (ones-long c seed scheme v permitted))
+
+    pub encode-refused : (t t′ : List ℕ) (i x : ℕ) → EncodeIs c v (take (16 * inputs c) z′) (take (16 * inputs c) o′) t (refused i x) t′ → IsRoom (refused i x)
+    encode-refused t t′ i x answers =
+        room-only _ _ i x ((rw (zeros-handed, ones-handed) at (answers .answered)) ∙ only-room c seed scheme v permitted .encode-room (length t))
+
   -- ---- encode ran
   module _ (v t t′ : List ℕ) (encoded : EncodeIs c v (take (16 * inputs c) z′) (take (16 * inputs c) o′) t fine t′) where
     encode-start : EncodeStart (inputs c) v (take (16 * inputs c) z′) (take (16 * inputs c) o′) t
@@ -65,21 +105,21 @@ module _ (c seed : List ℕ) (scheme : ℕ) (f z o f′ z′ o′ : List ℕ) (m
       bits = encode-start .bits;
     }
 
-    zeros-handed : take (16 * inputs c) z′ ≡ take (16 * inputs c) (chainZeros c seed scheme v)
-    zeros-handed = rw (zeros-are v) (front-part (chainZeros c seed scheme v) z (16 * inputs c) (omega (arith, zeros-long c seed scheme v allowed)))
-
-    ones-handed : take (16 * inputs c) o′ ≡ chainOnes c seed scheme v
-    ones-handed = rw (ones-are v) (whole-front _ o _ (ones-long c seed scheme v allowed))
-
     tokens-encoded : t′ ≡ over (chainInputs c seed scheme v) t
     unfolding chainInputs
-    tokens-encoded = encoded .left ∙ rw (← encoded .answered, zeros-handed, ones-handed)
+    tokens-encoded = encoded .left ∙ rw (← encoded .answered, zeros-handed v allowed, ones-handed v allowed)
 
     tokens-handed : take (16 * inputs c) t′ ≡ chainInputs c seed scheme v
     tokens-handed = rw tokens-encoded (whole-front _ t _ (inputs-long c seed scheme v allowed))
 
     abbrev file : List ℕ
     file = take (materialLength scheme (outputs c) (charges (circuitOf c .gates))) f′
+
+    pub evaluate-refused : (w w′ : List ℕ) (i x : ℕ) → EvaluateIs c (take (16 * inputs c) t′) file w (no (refused i x)) w′ → IsRoom (refused i x)
+    evaluate-refused w w′ i x answers =
+        let e = rw (tokens-handed, file-is v) at (answers .answered) in
+        let d = no-turned (evaluateVerdict c (chainInputs c seed scheme v) (chainMaterial c seed scheme v) (length w)) (refused i x) _ e in
+        room-only _ _ i x (d .is-w ∙ sym (d .is-v) ∙ only-room c seed scheme v allowed .evaluate-room (length w))
 
     -- ---- evaluate ran
     module _ (w w′ : List ℕ) (evaluated : EvaluateIs c (take (16 * inputs c) t′) file w (yes (evaluateCallsOf c file)) w′) where
@@ -99,6 +139,12 @@ module _ (c seed : List ℕ) (scheme : ℕ) (f z o f′ z′ o′ : List ℕ) (m
           rw wires-are
           (inner-part (chainTokens c seed scheme v) w (16 * outputs c) (16 * (inputs c + gates c) - 16 * outputs c)
           (omega (arith, few-outputs, tokens-long c seed scheme v allowed)))
+
+      pub decode-refused : (b b′ : List ℕ) (i x : ℕ)
+          → DecodeIs c (take (16 * outputs c) (drop (16 * (inputs c + gates c) - 16 * outputs c) w′)) file b (refused i x) b′ → IsRoom (refused i x)
+      decode-refused b b′ i x answers =
+          let e = rw (outputs-handed, output-part c (chainTokens c seed scheme v) few-outputs, file-is v) at (answers .answered) in
+          room-only _ _ i x (e ∙ only-room c seed scheme v allowed .decode-room (length b))
 
       -- ---- decode ran
       module _ (b b′ : List ℕ) (decoded : DecodeIs c (take (16 * outputs c) (drop (16 * (inputs c + gates c) - 16 * outputs c) w′)) file b fine b′) where

@@ -15,7 +15,7 @@ use Rattle.chain.specs.declared.Chained.{Chained}
 use Rattle.chain.specs.Parts.{EncodeOn, outputPart}
 use Rattle.chain.specs.Chain.{WiresRight, BitsRight, file, GarbleRan, EncodeAnswers, EvaluateRan, DecodeAnswers, ChainIs}
 use Rattle.chain.proofs.PartLaws.{token-over}
-use Rattle.chain.proofs.HandLaws.{allowed, zeros-are, wires-are, bits-handed}
+use Rattle.chain.proofs.HandLaws.{encode-refused, evaluate-refused, decode-refused, allowed, zeros-are, wires-are, bits-handed}
 
 module _ (c seed : List ℕ) (scheme : ℕ) (v f z o t w b f′ z′ o′ t′ w′ b′ : List ℕ)
     (garbled : GarbleRan c seed scheme v f z o t w b f′ z′ o′ t′ w′ b′)
@@ -52,11 +52,14 @@ module _ (c seed : List ℕ) (scheme : ℕ) (v f z o t w b f′ z′ o′ t′ w
       → ChainIs c seed scheme v f z o t w b r f′ z′ o′ t′ w′ b′
   unfolding sizesOf outputPart
   ended (Chained.Garble x) d = absurd d
-  ended (Chained.Encode x) d = record { garble-ran = ran; encode-is = d .0; wires-kept = d .1; bits-kept = d .2 }
+  ended (Chained.Encode x) d = record { garble-ran = ran; encode-is = d .0;
+    only-19 = λ a. encode-refused c seed scheme f z o f′ z′ o′ (garbleMade c scheme) ran v a t t′ _ _ (d .0);
+    wires-kept = d .1; bits-kept = d .2 }
   ended (Chained.Evaluate x) d = record {
     garble-ran = ran;
     encode-ran = d .encode-is;
     evaluate-is = d .evaluate-on .0;
+    only-19 = evaluate-refused c seed scheme f z o f′ z′ o′ (garbleMade c scheme) ran v t t′ (d .encode-is) w w′ _ _ (d .evaluate-on .0);
     bits-kept = d .evaluate-on .1;
   }
   ended (Chained.Decode x) d =
@@ -66,6 +69,7 @@ module _ (c seed : List ℕ) (scheme : ℕ) (v f z o t w b f′ z′ o′ t′ w
         encode-ran = d .encode-is;
         evaluate-ran = e .evaluate-is;
         decode-is = e .decode-is;
+        only-19 = decode-refused c seed scheme f z o f′ z′ o′ (garbleMade c scheme) ran v t t′ (d .encode-is) w w′ (e .evaluate-is) b b′ _ _ (e .decode-is);
         wires-right = wires-right c seed scheme v f z o t w b f′ z′ o′ t′ w′ b′ ran (d .encode-is) (e .evaluate-is);
       }
   ended Chained.Done d =

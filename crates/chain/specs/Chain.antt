@@ -19,7 +19,7 @@ use Rattle.model.specs.Aes.{block}
 use Rattle.model.specs.Tokens.{garblingOf, offset, distance}
 use Rattle.model.specs.Material.{materialLength}
 use Rattle.model.specs.Evaluation.{tokenAt}
-use Rattle.model.specs.Refusals.{Verdict, fine, verdictOf}
+use Rattle.model.specs.Refusals.{Verdict, fine, refused, verdictOf}
 use Rattle.model.specs.Operations.{Answer, yes, no, garbleMade, evaluateCallsOf, GarbleIs, EncodeIs, EvaluateIs, DecodeIs}
 use Rattle.model.specs.Demand3.{Allowed, carries}
 use Rattle.chain.specs.declared.Chained.{Chained}
@@ -35,6 +35,11 @@ pub record WiresRight (c seed : List ℕ) (scheme : ℕ) (v z′ w′ : List ℕ
 -- the decoded bytes
 pub record BitsRight (c seed : List ℕ) (scheme : ℕ) (v b′ : List ℕ) : Type 0 where
   pub decoded : take (outputs c) b′ ≡ map (carries c seed scheme v) (circuitOf c .outputs)
+
+-- refusal 19, a buffer too short: "With the arguments that demand 3 names, only 19 can refuse one of the four"
+pub record IsRoom (e : Verdict) : Type 0 where
+  pub needed : ℕ
+  pub is-19 : e ≡ refused 19 needed
 
 -- ---- what each of the four calls answered and left: a call gets the front of what the calls before it wrote
 
@@ -66,6 +71,7 @@ module _ (c seed : List ℕ) (scheme : ℕ) (v f z o t w b f′ z′ o′ t′ w
 
   pub record EndedAtGarble (e : Verdict) : Type 0 where
     pub garble-is : GarbleIs c seed scheme f z o (no e) f′ z′ o′
+    pub only-19 : Allowed c seed scheme v → IsRoom e
     pub tokens-kept : t′ ≡ t
     pub wires-kept : w′ ≡ w
     pub bits-kept : b′ ≡ b
@@ -73,6 +79,7 @@ module _ (c seed : List ℕ) (scheme : ℕ) (v f z o t w b f′ z′ o′ t′ w
   pub record EndedAtEncode (e : Verdict) : Type 0 where
     pub garble-ran : GarbleRan
     pub encode-is : EncodeAnswers e
+    pub only-19 : Allowed c seed scheme v → IsRoom e
     pub wires-kept : w′ ≡ w
     pub bits-kept : b′ ≡ b
 
@@ -80,6 +87,7 @@ module _ (c seed : List ℕ) (scheme : ℕ) (v f z o t w b f′ z′ o′ t′ w
     pub garble-ran : GarbleRan
     pub encode-ran : EncodeAnswers fine
     pub evaluate-is : EvaluateAnswers (no e)
+    pub only-19 : IsRoom e
     pub bits-kept : b′ ≡ b
 
   -- evaluation ran: every wire is right
@@ -88,6 +96,7 @@ module _ (c seed : List ℕ) (scheme : ℕ) (v f z o t w b f′ z′ o′ t′ w
     pub encode-ran : EncodeAnswers fine
     pub evaluate-ran : EvaluateRan
     pub decode-is : DecodeAnswers e
+    pub only-19 : IsRoom e
     pub wires-right : WiresRight c seed scheme v z′ w′
 
   -- all four ran: every wire and every bit is right
