@@ -25,6 +25,18 @@ module _ (c : List ℕ) (s : Sizes) (z o : List ℕ) (start : EncodeStart c s z 
   pub ones-front : 16 * s .n ≡ length (take (16 * s .n) o)
   ones-front = sym (length-take-le _ o (start .all-ones))
 
+  -- what encode leaves, whatever the lists were
+  pub evaluate-ready : (v zs os t : List ℕ) (q : Ran) (t′ : List ℕ) → EncodeIs c v zs os t (ranOf q) t′ → q ≡ Ran.Done → EvaluateStart c s t′
+  evaluate-ready v zs os t q t′ answers h =
+      let ran : EncodeIs c v zs os t fine t′ = rw h at answers in
+      let room = encode-fine c v zs os t (sym (ran .answered)) .room in
+      record {
+        sized = start .sized;
+        all-inputs =
+            rw (is-n c s (start .sized), ran .left, ← ran .answered)
+            (omega (arith, room, over-long (encodeBytes (circuitOf c) v zs os) t));
+      }
+
   -- encode's answer q
   module _ (v t : List ℕ) (q : Ran) (t′ : List ℕ) (answers : EncodeIs c v (take (16 * s .n) z) (take (16 * s .n) o) t (ranOf q) t′) where
     pub encode-on-refused : (e : Refusal) → q ≡ Ran.Refused e → EncodeIs c v (take (16 * s .n) z) (take (16 * s .n) o) t (verdictOf e) t′
@@ -33,16 +45,6 @@ module _ (c : List ℕ) (s : Sizes) (z o : List ℕ) (start : EncodeStart c s z 
     module _ (h : q ≡ Ran.Done) where
       ran : EncodeIs c v (take (16 * s .n) z) (take (16 * s .n) o) t fine t′
       ran = rw h at answers
-
-      pub evaluate-ready : EvaluateStart c s t′
-      evaluate-ready =
-          let room = encode-fine c v (take (16 * s .n) z) (take (16 * s .n) o) t (sym (ran .answered)) .room in
-          record {
-            sized = start .sized;
-            all-inputs =
-                rw (is-n c s (start .sized), ran .left, ← ran .answered)
-                (omega (arith, room, over-long (encodeBytes (circuitOf c) v (take (16 * s .n) z) (take (16 * s .n) o)) t));
-          }
 
       pub encode-on-done : (f w b : List ℕ) (r : Chained) (w′ b′ : List ℕ) → EvaluateOn c s f t′ w b r w′ b′ → EncodeOn c s v f z o t w b r t′ w′ b′
       encode-on-done f w b (Chained.Decode e) w′ b′ d = record { encode-is = ran; evaluate-on = d }

@@ -8,8 +8,6 @@ use mathlib.Core.Bool.{Bool, true, false, cond}
 use borrow.Author.Tests.{ltb-false, leb-true, eqb-true, not-false}
 use lib.Dec.{eqb}
 use lib.ListN.{length}
-use mir.Syntax.{w64}
-use mir.Val.{Fits}
 use Rattle.model.specs.declared.Sizes.{Sizes}
 use Rattle.model.specs.declared.Refusal.{Refusal}
 use Rattle.model.specs.Circuit.{charges, circuitOf, outputs, gates, gateAt}
@@ -28,7 +26,7 @@ use Rattle.model.proofs.Circuits.{charges-le}
 use Rattle.model.proofs.Calls.{calls-all}
 use Rattle.circuit.specs.Answers.{readyOf}
 use Rattle.circuit.specs.declared.values.Ready.{Ready}
-use Rattle.garble.specs.Answers.{garbleReady}
+use Rattle.garble.specs.Answers.{Few, garbleReady}
 use Rattle.garble.specs.Whole.{WholeStart, WholeIs}
 
 -- each scheme calls π four times at a charged gate
@@ -94,8 +92,11 @@ module _ (c seed : List ℕ) (scheme : ℕ) (m z o : List ℕ) (r : Ready) (is-r
         let h = accepted-header c (garble-go .accepted) in
         omega (arith, is-p, charges-le (tabulate (gates c) (gateAt c)), tabulate-length (gates c) (gateAt c), h .sizes .sum)
 
-    pub calls-fit : Fits w64 (4 * s .p)
-    calls-fit = omega (arith, few-charges)
+    pub few : Few s
+    unfolding sizesOf
+    few =
+        let h = accepted-header c (garble-go .accepted) in
+        record { wires = rw (given .is-result) (h .sizes .sum); outputs = few-outputs; charged = few-charges }
 
     pub garble-done : (l : ℕ) → l ≡ materialLength scheme (s .m) (s .p) → (m′ z′ o′ : List ℕ) → WholeIs c seed scheme m z o m′ z′ o′
         → GarbleIs c seed scheme m z o (yes (made l (4 * s .p))) m′ z′ o′

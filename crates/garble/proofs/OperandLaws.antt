@@ -4,8 +4,6 @@ use native.Mathlib.Omega.{arith}
 use mathlib.Core.Path.{_≡_, refl, ap, _∙_}
 use mathlib.Core.List.{List}
 use lib.ListN.{length, take, drop}
-use mir.Syntax.{w16}
-use mir.Val.{Fits}
 use Rattle.model.specs.declared.Gate.{Gate}
 use Rattle.model.specs.Circuit.{inputs, gates, gateAt, gateWire}
 use Rattle.model.specs.Aes.{Block}
@@ -27,8 +25,8 @@ module _ (c : List ℕ) (n k : ℕ) (z : List ℕ) (start : OperandsStart c n k 
   pub gate-small : k < 65536
   gate-small = omega (arith, in-circuit .sizes .sum, start .more)
 
-  pub own-fits : Fits w16 (n + k + 1)
-  own-fits = omega (arith, in-circuit .sizes .sum, start .more, start .is-n)
+  pub own-small : n + k + 1 < 65536
+  own-small = omega (arith, in-circuit .sizes .sum, start .more, start .is-n)
 
   module _ (g : Gate) (is-g : g ≡ gateAt c k) where
     pub low-a : 1 ≤ g .a
@@ -59,4 +57,4 @@ module _ (c : List ℕ) (n k : ℕ) (z : List ℕ) (start : OperandsStart c n k 
       is-xb = i ∙ rw is-g;
     }
 
-pub ruleset operand-needs = (gate-room, gate-small, own-fits, low-a, low-b, load-a, load-b)
+pub ruleset operand-needs = (gate-room, gate-small, low-a, low-b, load-a, load-b)
