@@ -105,8 +105,20 @@ module _ (γ : Garbling) (low : 1 ≤ γ .scheme) (high : γ .scheme ≤ 3) (few
   file-fine : fileVerdict (γ .circuit) s ≡ fine
   unfolding fileVerdict schemeVerdict refuse _then_
   file-fine =
-      simp (le-ltb _ _ long, own-mark, scheme-byte, le-leb _ _ low, le-leb _ _ high, own-n, own-m, own-q,
-      eq-eqb (γ .circuit .n) _ refl, eq-eqb (length (γ .circuit .outputs)) _ refl, eq-eqb (length gs) _ refl, eq-eqb _ _ whole)
+      simp (
+        le-ltb _ _ long,
+        own-mark,
+        scheme-byte,
+        le-leb _ _ low,
+        le-leb _ _ high,
+        own-n,
+        own-m,
+        own-q,
+        eq-eqb (γ .circuit .n) _ refl,
+        eq-eqb (length (γ .circuit .outputs)) _ refl,
+        eq-eqb (length gs) _ refl,
+        eq-eqb _ _ whole,
+      )
 
   -- ---- 17
 
@@ -136,8 +148,8 @@ module _ (γ : Garbling) (low : 1 ≤ γ .scheme) (high : γ .scheme ≤ 3) (few
   unfolding material front before gate records
   cut-at-gate k h =
       let recs =
-          ap (λ (x : List Gate). records γ x (inputZeros γ)) (split-at gs k (record { a = 0; b = 0; code = 0 }) h)
-          ∙ records-append γ (take k gs) (gate k ∷ drop (suc k) gs) (inputZeros γ) in
+      ap (λ (x : List Gate). records γ x (inputZeros γ)) (split-at gs k (record { a = 0; b = 0; code = 0 }) h)
+      ∙ records-append γ (take k gs) (gate k ∷ drop (suc k) gs) (inputZeros γ) in
       (records γ (drop (suc k) gs) (before k ++ (zeroStep γ (before k) (gate k) ∷ [])) ++ lastRecord γ, rw recs (simp append-assoc))
 
   row-there : (k : ℕ) → k < length gs → (u v x : ℕ) → kindOf (gate k .code) ≡ charged u v x

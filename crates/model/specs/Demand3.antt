@@ -68,8 +68,8 @@ module _ (c seed : List ℕ) (scheme : ℕ) (values : List ℕ) where
   pub record OnlyRoom : Type 0 where
     pub garble-room : (km kz ko : ℕ) → garbleVerdict c seed scheme km kz ko
         ≡ (roomVerdict (materialLength scheme (outputs c) (charges (circuitOf c .gates))) km
-          then roomVerdict (16 * (inputs c + gates c)) kz
-          then roomVerdict (16 * inputs c) ko)
+        then roomVerdict (16 * (inputs c + gates c)) kz
+        then roomVerdict (16 * inputs c) ko)
     pub encode-room : (k : ℕ) → encodeVerdict c values (take (16 * inputs c) chainZeros) chainOnes k ≡ roomVerdict (16 * inputs c) k
     pub evaluate-room : (k : ℕ) → evaluateVerdict c chainInputs chainMaterial k ≡ roomVerdict (16 * (inputs c + gates c)) k
     pub decode-room : (k : ℕ) → decodeVerdict c (outputTokens (circuitOf c) chainTokens) chainMaterial k ≡ roomVerdict (outputs c) k
