@@ -10,3 +10,8 @@ pub fn bytes(text: &str) -> Option<Vec<u8>> {
     let whole = pairs.remainder().is_empty();
     whole.then(|| pairs.map(|pair| 16 * pair[0] + pair[1]).collect())
 }
+
+/// Bytes as a hexadecimal text.
+pub fn text(bytes: &[u8]) -> String {
+    bytes.iter().map(|byte| format!("{byte:02x}")).collect()
+}

@@ -21,10 +21,15 @@ impl Default for Pi {
 }
 
 impl Pi {
+    /// π(K).
+    pub fn permute(&mut self, block: Block) -> Block {
+        self.calls += 1;
+        self.key.encrypt(block)
+    }
+
     /// π(K) ⊕ K, the part that E and H have in common; one call of π.
     pub fn hash(&mut self, block: Block) -> Block {
-        self.calls += 1;
-        self.key.encrypt(block) ^ block
+        self.permute(block) ^ block
     }
 
     /// The calls made so far.

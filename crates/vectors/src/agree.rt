@@ -1,13 +1,17 @@
 // Whether a case agrees with the proved functions: its arguments, and what must come of them, are the fields of its line.
+use crate::answer::done;
+use crate::answer::refused;
+use crate::answer::word;
+use crate::garbler::encode_run;
+use crate::garbler::garble_run;
+use crate::garbler::pick_run;
 use aes::encrypt;
 use aes::expand_key;
 use aes::s_box;
 use block::Block;
 use check::same;
-use circuit::refusal::number_and_place;
 use model::Checked;
 use model::Ran;
-use model::Refusal;
 
 // The 16 bytes of a field; of a field of another length, none agrees with anything.
 fn block_of(field: &[u8]) -> Block {
@@ -16,16 +20,6 @@ fn block_of(field: &[u8]) -> Block {
         buffer::copy_front(field, &mut bytes);
     }
     Block { bytes }
-}
-
-// A number as 4 bytes, big-endian, as an answer has it.
-fn word(n: usize) -> [u8; 4] {
-    [
-        (n / 16777216 % 256) as u8,
-        (n / 65536 % 256) as u8,
-        (n / 256 % 256) as u8,
-        (n % 256) as u8,
-    ]
 }
 
 // Key, plaintext, ciphertext.
@@ -50,14 +44,6 @@ fn doubling(a: &[u8], twice: &[u8], four: &[u8]) -> bool {
     let y = x.doubled().bytes;
     let z = x.quadrupled().bytes;
     same(&y, twice) && same(&z, four)
-}
-
-// A refusal's number, of 1 byte, and its place, of 4.
-fn refused(f: Refusal, answer: &[u8]) -> bool {
-    let t = number_and_place(f);
-    let p = word(t.place);
-    let given = [t.number, p[0], p[1], p[2], p[3]];
-    same(&given, answer)
 }
 
 // Circuit, and the answer: 00 and n, m, q, p of 4 bytes each, or the refusal.
@@ -96,7 +82,7 @@ fn plain_leaves(
     buffer::copy_front(before, wires);
     let agreed = match circuit::plain(circuit, values, wires) {
         Ran::Refused(f) => refused(f, answer),
-        Ran::Done => same(&[0u8], answer),
+        Ran::Done => done(answer),
     };
     agreed && same(wires, after)
 }
@@ -117,15 +103,20 @@ fn plain_run(
     plain_leaves(circuit, values, before, answer, after, &mut work[..room])
 }
 
-// By group: 1 encryption, 2 key expansion, 3 doubling, 4 check, 5 plain. `work` is room for an operation to write in.
-pub fn agrees(
+// By group: 1 encryption, 2 key expansion, 3 doubling, 4 check, 5 plain, 6 garble, 7 encode, 8 pick. What an operation
+// writes goes to `work`, and garble's tokens to `zeros` and `ones`.
+pub fn agrees<'a>(
     group: u8,
-    a: &[u8],
-    b: &[u8],
+    a: &'a [u8],
+    b: &'a [u8],
     c: &[u8],
     d: &[u8],
     e: &[u8],
+    f: &[u8],
+    g: &[u8],
     work: &mut [u8],
+    zeros: &mut [u8],
+    ones: &mut [u8],
 ) -> bool {
     match group {
         1 => encryption(a, b, c),
@@ -133,6 +124,9 @@ pub fn agrees(
         3 => doubling(a, b, c),
         4 => checking(a, b),
         5 => plain_run(a, b, c, d, e, work),
+        6 => garble_run(a, b, c, d, e, f, g, work, zeros, ones),
+        7 => encode_run(a, b, c, d, e, f, g, work),
+        8 => pick_run(a, b, c, d, e),
         _ => false,
     }
 }

@@ -1,7 +1,7 @@
 // Lines of hexadecimal fields, one space between two fields; "--" stands for no byte.
 ghost use Prim.Native.Nat.{_+_, _≤_, _<_};
 ghost use lib.ListN.{length};
-ghost use Rattle.vectors.specs.Fields.{FieldFits, CutsFit};
+ghost use Rattle.vectors.specs.Fields.{FieldFits, FourFit, CutsFit};
 
 // Where a field ends in the buffer that it was decoded to, and in the text.
 struct Field {
@@ -9,13 +9,24 @@ struct Field {
     next: usize,
 }
 
-// Where five fields end in the buffer that they were decoded to, the first from its start.
+// Where four fields end in the buffer that they were decoded to, and the last of them in the text.
+struct Four {
+    a: usize,
+    b: usize,
+    c: usize,
+    d: usize,
+    next: usize,
+}
+
+// Where seven fields end in the buffer that they were decoded to, the first from its start.
 pub struct Cuts {
     pub a: usize,
     pub b: usize,
     pub c: usize,
     pub d: usize,
     pub e: usize,
+    pub f: usize,
+    pub g: usize,
 }
 
 // A hexadecimal digit's value; 0 for any other byte.
@@ -75,22 +86,39 @@ fn read_field(text: &[u8], at: usize, out: &mut [u8], from: usize) -> Field
     Field { end, next: i }
 }
 
-// The five fields of the line at an index, one after the other in a buffer; fields that the line lacks are empty.
-pub fn read_fields(text: &[u8], at: usize, out: &mut [u8]) -> Cuts
-    requires { ⌜ at ≤ length (now text) ⌝ }
-    ensures { λ r. ⌜ CutsFit (now (out .entry)) (r .a) (r .b) (r .c) (r .d) (r .e) ⌝ }
+// Four fields from an index of a line on, one after the other in a buffer after its first `from` bytes.
+fn read_four(text: &[u8], at: usize, out: &mut [u8], from: usize) -> Four
+    requires { ⌜ (at ≤ length (now text)) × (from ≤ length (now out)) ⌝ }
+    ensures { λ r. ⌜ FourFit (now (text .entry)) at (now (out .entry)) from (r .a) (r .b) (r .c) (r .d) (r .next) ⌝ }
 {
-    let a = read_field(text, at, out, 0);
+    let a = read_field(text, at, out, from);
     let b = read_field(text, a.next, out, a.end);
     let c = read_field(text, b.next, out, b.end);
     let d = read_field(text, c.next, out, c.end);
-    let e = read_field(text, d.next, out, d.end);
-    Cuts {
+    Four {
         a: a.end,
         b: b.end,
         c: c.end,
         d: d.end,
-        e: e.end,
+        next: d.next,
+    }
+}
+
+// The seven fields of the line at an index, one after the other in a buffer; fields that the line lacks are empty.
+pub fn read_fields(text: &[u8], at: usize, out: &mut [u8]) -> Cuts
+    requires { ⌜ at ≤ length (now text) ⌝ }
+    ensures { λ r. ⌜ CutsFit (now (out .entry)) (r .a) (r .b) (r .c) (r .d) (r .e) (r .f) (r .g) ⌝ }
+{
+    let x = read_four(text, at, out, 0);
+    let y = read_four(text, x.next, out, x.d);
+    Cuts {
+        a: x.a,
+        b: x.b,
+        c: x.c,
+        d: x.d,
+        e: y.a,
+        f: y.b,
+        g: y.c,
     }
 }
 

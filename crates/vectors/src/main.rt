@@ -5,8 +5,15 @@ use crate::cases::run;
 use libc::STDOUT_FILENO;
 
 mod agree;
+mod answer;
 mod cases;
+mod fill;
+mod fingerprint;
+mod garbler;
+mod large;
 mod line;
+mod room;
+mod rule;
 
 // ": N of M agree", and the end of the line.
 fn print_tally(t: Tally) {
@@ -25,7 +32,7 @@ fn run_file(group: u8, path: &[u8]) {
         os::fail(path);
         return;
     }
-    let mut text = io::large_buffer();
+    let mut text = room::most();
     let len = io::read_full(file, &mut text);
     libc::close(file);
     print_tally(run(group, &text[..len]));
@@ -38,4 +45,11 @@ fn main() {
     run_file(4, b"examples");
     run_file(4, b"check");
     run_file(5, b"plain");
+    run_file(6, b"garble");
+    run_file(7, b"encode");
+    run_file(8, b"pick");
+    run_file(6, b"garble-generated");
+    run_file(7, b"encode-generated");
+    run_file(8, b"pick-generated");
+    run_file(9, b"garble-large");
 }

@@ -1,0 +1,2 @@
+-- What more than one proof cites.
+pub mod Zeros

@@ -1,0 +1,78 @@
+//! Cases as the test program `vectors` reads them: a line each, fields in hexadecimal.
+
+use crate::call::{Call, Operation, Outcome};
+use crate::hex;
+use crate::refused::Refused;
+
+/// A line of fields, one space between two; "--" stands for no byte.
+pub fn line(fields: &[Vec<u8>]) -> String {
+    let field = |bytes: &Vec<u8>| match bytes.is_empty() {
+        true => "--".to_string(),
+        false => hex::text(bytes),
+    };
+    let fields: Vec<String> = fields.iter().map(field).collect();
+    fields.join(" ") + "\n"
+}
+
+/// A number as 4 bytes, big-endian.
+fn word(number: u64) -> [u8; 4] {
+    let number = u32::try_from(number).expect("a number of 4 bytes");
+    number.to_be_bytes()
+}
+
+/// 00 and the numbers returned, 4 bytes each; or the refusal's number and its place in 4 bytes.
+pub fn answer(answer: &Result<Vec<u64>, Refused>) -> Vec<u8> {
+    let (first, numbers) = match answer {
+        Ok(numbers) => (0, numbers.clone()),
+        Err(refused) => (refused.number, vec![refused.place]),
+    };
+    let words = numbers.into_iter().flat_map(word);
+    [first].into_iter().chain(words).collect()
+}
+
+/// Some bytes, and after them the lengths of the output buffers.
+fn setting(first: &[u8], call: &Call) -> Vec<u8> {
+    // What `vectors` has room for: material and all zero tokens, then the tokens of the inputs.
+    let room = [1 << 20, 1 << 20, 1 << 16];
+    let mut bytes = first.to_vec();
+    for (&length, room) in call.lens.iter().zip(room) {
+        assert!(length <= room, "more room than `vectors` has");
+        bytes.extend(word(length as u64));
+    }
+    bytes
+}
+
+/// The arguments of a call, as fields.
+fn arguments(call: &Call) -> Vec<Vec<u8>> {
+    let circuit = call.circuit.clone();
+    let (zero, one) = (call.zero.clone(), call.one.clone());
+    match call.operation {
+        Operation::Check => vec![circuit],
+        Operation::Plain => vec![circuit, call.values.clone(), call.buffers().concat()],
+        Operation::Garble => {
+            let setting = setting(&[call.scheme, call.fill], call);
+            vec![circuit, call.seed.clone(), setting]
+        }
+        Operation::Encode => {
+            let setting = setting(&[call.fill], call);
+            vec![circuit, call.values.clone(), zero, one, setting]
+        }
+        Operation::Pick => {
+            let asked = [&call.wire.to_be_bytes()[..], &[call.bit]].concat();
+            vec![zero, one, asked]
+        }
+        other => panic!("`vectors` has no form for {other:?}"),
+    }
+}
+
+/// The line of a call and of what must come of it: the arguments, the answer, the buffers after the
+/// call. Those of garble and encode are left out after a refusal, which leaves them as they were.
+pub fn case(call: &Call, expected: &Outcome) -> String {
+    let mut fields = arguments(call);
+    fields.push(answer(&expected.answer));
+    let left_out = matches!(call.operation, Operation::Garble | Operation::Encode);
+    if !(left_out && expected.answer.is_err()) {
+        fields.extend(expected.buffers.clone());
+    }
+    line(&fields)
+}

@@ -1,0 +1,130 @@
+//! The files of cases that the test program `vectors` reads: those of the third reading of 01, and
+//! those made here. The same files come out of every run.
+
+use crate::block::Colour;
+use crate::call::{Call, Operation};
+use crate::cases::{self, Asked};
+use crate::generate::{self, damage};
+use crate::large::{self, Rule};
+use crate::lines;
+use crate::random::Random;
+
+/// A file of cases, a line each.
+#[derive(Clone, Debug)]
+pub struct File {
+    /// Its name, which `vectors` prints.
+    pub name: &'static str,
+    /// Its lines.
+    pub text: String,
+}
+
+/// All files made here.
+pub fn files() -> Vec<File> {
+    let stored = [
+        ("check", Operation::Check),
+        ("plain", Operation::Plain),
+        ("garble", Operation::Garble),
+        ("encode", Operation::Encode),
+        ("pick", Operation::Pick),
+    ];
+    let generated = [
+        ("garble-generated", Operation::Garble),
+        ("encode-generated", Operation::Encode),
+        ("pick-generated", Operation::Pick),
+    ];
+    let mut files = Vec::new();
+    for (name, operation) in stored {
+        let text = stored_cases(operation);
+        files.push(File { name, text });
+    }
+    for (name, operation) in generated {
+        let text = generated_cases(operation);
+        files.push(File { name, text });
+    }
+    let (name, text) = ("garble-large", large_cases());
+    files.push(File { name, text });
+    files
+}
+
+/// The stored cases of an operation, with the answers stored.
+fn stored_cases(operation: Operation) -> String {
+    let cases = cases::read(include_str!("../data/base.jsonl")).expect("readable cases");
+    let line = |case: &cases::Case| match &case.asked {
+        Asked::Call { call, expected } if call.operation == operation => {
+            Some(lines::case(call, expected))
+        }
+        _ => None,
+    };
+    cases.iter().filter_map(line).collect()
+}
+
+/// New cases of an operation: accepted ones, and a case for each refusal alone and for each two.
+fn generated_cases(operation: Operation) -> String {
+    let mut random = Random::new(1_001);
+    let mut calls = Vec::new();
+    for _ in 0..20 {
+        calls.push(generate::call(&mut random, operation));
+    }
+    let numbers = operation.refusals();
+    for (index, &first) in numbers.iter().enumerate() {
+        for &second in &numbers[index..] {
+            let due = if first == second {
+                vec![first]
+            } else {
+                vec![first, second]
+            };
+            calls.push(damage::damaged_call(&mut random, operation, &due));
+        }
+    }
+    let line = |call: &Call| lines::case(call, &call.run());
+    calls.iter().map(line).collect()
+}
+
+/// n, m, q and the period of large garblings, which each scheme makes.
+const LARGE: [(u16, u16, u16, u16); 14] = [
+    (2, 1, 1, 1),
+    (2, 1, 2, 0),
+    (3, 40, 40, 2),
+    (2, 17, 254, 3),
+    (254, 1, 2, 1),
+    (255, 300, 300, 1),
+    (300, 1, 700, 7),
+    (2, 4_000, 4_000, 1),
+    (4_094, 3, 3, 1),
+    (4_096, 4_096, 5_000, 2),
+    (2, 100, 15_000, 1),
+    (4_096, 61_439, 61_439, 8),
+    (2, 1, 65_533, 5),
+    (2, 65_533, 65_533, 4_096),
+];
+
+/// Large garblings by each scheme; and, for each pair of colours of the first two inputs' zero
+/// tokens, a garbling that has every code.
+fn large_cases() -> String {
+    let mut random = Random::new(65_535);
+    let mut text = String::new();
+    for scheme in 1..=3 {
+        for colours in [[false, false], [false, true], [true, false], [true, true]] {
+            let seed = large::coloured_seed(&mut random, colours.map(Colour));
+            let rule = rule(&mut random, (2, 32, 32, 2));
+            text += &large::case(rule, seed, scheme);
+        }
+        for sizes in LARGE {
+            let seed = generate::seed(&mut random);
+            let rule = rule(&mut random, sizes);
+            text += &large::case(rule, seed, scheme);
+        }
+    }
+    text
+}
+
+fn rule(random: &mut Random, (n, m, q, period): (u16, u16, u16, u16)) -> Rule {
+    let start = random.between(1, 2_147_483_646) as u32;
+    Rule {
+        n,
+        m,
+        q,
+        period,
+        start,
+    }
+}
