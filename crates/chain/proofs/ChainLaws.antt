@@ -9,17 +9,16 @@ use Rattle.model.specs.declared.Sizes.{Sizes}
 use Rattle.model.specs.declared.Refusal.{Refusal}
 use Rattle.model.specs.declared.Checked.{Checked}
 use Rattle.model.specs.declared.Garbled.{Garbled}
-use Rattle.model.specs.Circuit.{charges, circuitOf, inputs, outputs, gates}
+use Rattle.model.specs.Circuit.{charges, circuitOf, outputs, gates}
 use Rattle.model.specs.Tokens.{garblingOf}
 use Rattle.model.specs.Garbling.{zeroTokens, inputOnes}
 use Rattle.model.specs.Material.{joinBlocks, material, materialLength}
 use Rattle.model.specs.Refusals.{fine, refused, verdictOf, circuitVerdict}
 use Rattle.model.specs.Operations.{Made, made, no, yes, sizesOf, checkedOf, checkAnswer, garbledOf, garbleVerdict, garbleMade, GarbleIs}
-use Rattle.model.proofs.Verdicts.{Turned, no-turned, yes-given}
+use Rattle.model.proofs.Verdicts.{no-turned}
 use Rattle.material.specs.Answers.{Accepted}
 use Rattle.material.proofs.SizeLaws.{check-accepted, is-n}
 use Rattle.garble.specs.Whole.{WholeStart}
-use Rattle.garble.proofs.GarbleIsLaws.{garble-fine}
 use Rattle.chain.specs.declared.Chained.{Chained}
 use Rattle.chain.specs.Parts.{EncodeStart, EncodeOn}
 use Rattle.chain.specs.Chain.{EndedAtGarble, ChainIs}
@@ -49,25 +48,24 @@ module _ (c seed : List ℕ) (scheme : ℕ) (f z o : List ℕ) (g : Garbled) (f�
 
   -- garble ran
   module _ (l k : ℕ) (h : g ≡ Garbled.Done l k) where
+    done : GarbleIs c seed scheme f z o (yes (made l k)) f′ z′ o′
+    done = rw h at answers
+
     was-fine : garbleVerdict c seed scheme (length f) (length z) (length o) ≡ fine
-    was-fine =
-        yes-given (garbleVerdict c seed scheme (length f) (length z) (length o)) (made l k) (garbleMade c scheme)
-        (let a = answers .answered in rw h at a) .is-fine
+    was-fine = H.was-fine c seed scheme f z o f′ z′ o′ (made l k) done
 
     is-made : made l k ≡ garbleMade c scheme
-    is-made =
-        yes-given (garbleVerdict c seed scheme (length f) (length z) (length o)) (made l k) (garbleMade c scheme)
-        (let a = answers .answered in rw h at a) .is-result
+    is-made = H.garble-made c seed scheme f z o f′ z′ o′ (made l k) done
 
     is-length : l ≡ materialLength scheme (outputs c) (charges (circuitOf c .gates))
     unfolding garbleMade
     is-length = ap lengthOf is-made
 
     start : WholeStart c seed scheme (sizesOf c) f z o
-    start = garble-fine c seed scheme f z o was-fine
+    start = H.garbled c seed scheme f z o f′ z′ o′ (made l k) done
 
     ran : GarbleIs c seed scheme f z o (yes (garbleMade c scheme)) f′ z′ o′
-    ran = rw (h, is-made) at answers
+    ran = rw is-made at done
 
     pub material-among : l ≤ length f′
     material-among =

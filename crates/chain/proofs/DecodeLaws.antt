@@ -1,7 +1,7 @@
 -- `decode_on`: the part of all wires' tokens that decode gets, and a law for each return. Assumes nothing.
 use Prim.Native.Nat.{ℕ, _+_, _*_, _-_, _≤_}
 use native.Mathlib.Omega.{arith}
-use mathlib.Core.Path.{_≡_, ap}
+use mathlib.Core.Path.{_≡_}
 use mathlib.Core.List.{List}
 use lib.ListN.{take, drop}
 use mir.Syntax.{w64}

@@ -8,10 +8,10 @@ use lib.Seq.{length-take-le}
 use Rattle.model.specs.declared.Sizes.{Sizes}
 use Rattle.model.specs.declared.Refusal.{Refusal}
 use Rattle.model.specs.declared.Ran.{Ran}
-use Rattle.model.specs.Circuit.{circuitOf, inputs}
+use Rattle.model.specs.Circuit.{circuitOf}
 use Rattle.model.specs.Evaluation.{encodeBytes}
 use Rattle.model.specs.Refusals.{fine, verdictOf}
-use Rattle.model.specs.Operations.{ranOf, encodeVerdict, EncodeIs}
+use Rattle.model.specs.Operations.{ranOf, EncodeIs}
 use Rattle.material.proofs.SizeLaws.{is-n}
 use Rattle.garble.proofs.EncodeIsLaws.{encode-fine}
 use Rattle.chain.specs.declared.Chained.{Chained}

@@ -8,10 +8,10 @@ use lib.Seq.{length-take-le}
 use Rattle.model.specs.declared.Sizes.{Sizes}
 use Rattle.model.specs.declared.Refusal.{Refusal}
 use Rattle.model.specs.declared.Evaluated.{Evaluated}
-use Rattle.model.specs.Circuit.{circuitOf, inputs, gates}
+use Rattle.model.specs.Circuit.{circuitOf, inputs}
 use Rattle.model.specs.Evaluation.{evaluateBytes}
-use Rattle.model.specs.Refusals.{fine, verdictOf}
-use Rattle.model.specs.Operations.{no, yes, evaluatedOf, evaluateVerdict, evaluateCallsOf, EvaluateIs}
+use Rattle.model.specs.Refusals.{verdictOf}
+use Rattle.model.specs.Operations.{no, evaluatedOf, evaluateVerdict, evaluateCallsOf, EvaluateIs}
 use Rattle.model.proofs.Verdicts.{Given, yes-given, then-fine}
 use Rattle.material.proofs.SizeLaws.{is-n, is-q}
 use Rattle.evaluate.proofs.ReadyLaws.{evaluate-verdict, rest-holds}

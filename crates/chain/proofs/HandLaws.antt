@@ -1,7 +1,7 @@
 -- What each call leaves, and so what the next one gets: the bytes that demand 3 speaks of. Assumes nothing.
 use Prim.Native.Nat.{ℕ, _+_, _*_, _-_, _≤_}
 use native.Mathlib.Omega.{arith}
-use mathlib.Core.Path.{_≡_, sym, ap, _∙_}
+use mathlib.Core.Path.{_≡_, sym, _∙_}
 use mathlib.Core.List.{List, map}
 use mathlib.Core.Bool.{Bool, true, false}
 use lib.Dec.{ltb}
@@ -10,9 +10,8 @@ use Rattle.model.specs.Bytes.{over}
 use Rattle.model.specs.Circuit.{charges, circuitOf, inputs, outputs, gates}
 use Rattle.model.specs.Tokens.{garblingOf}
 use Rattle.model.specs.Material.{materialLength, material}
-use Rattle.model.specs.Evaluation.{encodeBytes, evaluateBytes, decodeBytes}
 use Rattle.model.specs.Refusals.{Verdict, fine, refused, refuse, _then_, roomVerdict}
-use Rattle.model.specs.Operations.{no, yes, sizesOf, Made, garbleVerdict, garbleMade, encodeVerdict, evaluateVerdict, evaluateCallsOf, decodeVerdict, GarbleIs, EncodeIs, EvaluateIs, DecodeIs}
+use Rattle.model.specs.Operations.{no, yes, sizesOf, Made, garbleVerdict, garbleMade, evaluateVerdict, evaluateCallsOf, GarbleIs, EncodeIs, EvaluateIs, DecodeIs}
 use Rattle.model.specs.Demand3.{Allowed, chainMaterial, chainZeros, chainOnes, chainInputs, chainTokens, chainBits, carries}
 use Rattle.model.proofs.Verdicts.{yes-given, no-turned}
 use Rattle.model.proofs.Accepted.{accepted-header}
@@ -53,7 +52,7 @@ garble-refused c seed scheme v f z o f′ z′ o′ i x answers permitted =
 
 -- ---- garble ran
 module _ (c seed : List ℕ) (scheme : ℕ) (f z o f′ z′ o′ : List ℕ) (made : Made) (ran : GarbleIs c seed scheme f z o (yes made) f′ z′ o′) where
-  was-fine : garbleVerdict c seed scheme (length f) (length z) (length o) ≡ fine
+  pub was-fine : garbleVerdict c seed scheme (length f) (length z) (length o) ≡ fine
   was-fine = yes-given _ made (garbleMade c scheme) (ran .answered) .is-fine
 
   pub garbled : WholeStart c seed scheme (sizesOf c) f z o

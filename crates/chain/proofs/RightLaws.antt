@@ -4,7 +4,6 @@ use native.Mathlib.Omega.{arith}
 use mathlib.Core.Path.{_≡_}
 use mathlib.Core.List.{List}
 use Rattle.model.specs.Circuit.{inputs, gates}
-use Rattle.model.specs.Aes.{Block}
 use Rattle.model.specs.Tokens.{distance}
 use Rattle.model.specs.Evaluation.{tokenAt}
 use Rattle.model.specs.Refusals.{fine}
@@ -52,9 +51,13 @@ module _ (c seed : List ℕ) (scheme : ℕ) (v f z o t w b f′ z′ o′ t′ w
       → ChainIs c seed scheme v f z o t w b r f′ z′ o′ t′ w′ b′
   unfolding sizesOf outputPart
   ended (Chained.Garble x) d = absurd d
-  ended (Chained.Encode x) d = record { garble-ran = ran; encode-is = d .0;
+  ended (Chained.Encode x) d = record {
+    garble-ran = ran;
+    encode-is = d .0;
     only-19 = λ a. encode-refused c seed scheme f z o f′ z′ o′ (garbleMade c scheme) ran v a t t′ _ _ (d .0);
-    wires-kept = d .1; bits-kept = d .2 }
+    wires-kept = d .1;
+    bits-kept = d .2;
+  }
   ended (Chained.Evaluate x) d = record {
     garble-ran = ran;
     encode-ran = d .encode-is;
