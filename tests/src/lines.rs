@@ -57,6 +57,10 @@ fn arguments(call: &Call) -> Vec<Vec<u8>> {
             let setting = setting(&[call.fill], call);
             vec![circuit, call.values.clone(), zero, one, setting]
         }
+        Operation::Evaluate | Operation::Decode => {
+            let setting = setting(&[call.fill], call);
+            vec![circuit, call.tokens.clone(), call.material.clone(), setting]
+        }
         Operation::Pick => {
             let asked = [&call.wire.to_be_bytes()[..], &[call.bit]].concat();
             vec![zero, one, asked]
@@ -66,11 +70,15 @@ fn arguments(call: &Call) -> Vec<Vec<u8>> {
 }
 
 /// The line of a call and of what must come of it: the arguments, the answer, the buffers after the
-/// call. Those of garble and encode are left out after a refusal, which leaves them as they were.
+/// call. Those of garble, encode, evaluate and decode are left out after a refusal, which leaves
+/// them as they were.
 pub fn case(call: &Call, expected: &Outcome) -> String {
     let mut fields = arguments(call);
     fields.push(answer(&expected.answer));
-    let left_out = matches!(call.operation, Operation::Garble | Operation::Encode);
+    let left_out = matches!(
+        call.operation,
+        Operation::Garble | Operation::Encode | Operation::Evaluate | Operation::Decode
+    );
     if !(left_out && expected.answer.is_err()) {
         fields.extend(expected.buffers.clone());
     }

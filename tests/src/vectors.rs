@@ -4,6 +4,8 @@
 use crate::block::Colour;
 use crate::call::{Call, Operation};
 use crate::cases::{self, Asked};
+use crate::chained;
+use crate::evaluator;
 use crate::generate::{self, damage};
 use crate::large::{self, Rule};
 use crate::lines;
@@ -26,11 +28,15 @@ pub fn files() -> Vec<File> {
         ("garble", Operation::Garble),
         ("encode", Operation::Encode),
         ("pick", Operation::Pick),
+        ("evaluate", Operation::Evaluate),
+        ("decode", Operation::Decode),
     ];
     let generated = [
         ("garble-generated", Operation::Garble),
         ("encode-generated", Operation::Encode),
         ("pick-generated", Operation::Pick),
+        ("evaluate-generated", Operation::Evaluate),
+        ("decode-generated", Operation::Decode),
     ];
     let mut files = Vec::new();
     for (name, operation) in stored {
@@ -41,6 +47,8 @@ pub fn files() -> Vec<File> {
         let text = generated_cases(operation);
         files.push(File { name, text });
     }
+    let (name, text) = ("chain-generated", chained::cases());
+    files.push(File { name, text });
     let (name, text) = ("garble-large", large_cases());
     files.push(File { name, text });
     files
@@ -58,7 +66,8 @@ fn stored_cases(operation: Operation) -> String {
     cases.iter().filter_map(line).collect()
 }
 
-/// New cases of an operation: accepted ones, and a case for each refusal alone and for each two.
+/// New cases of an operation: accepted ones, and a case for each refusal alone and for each two; of
+/// evaluate and decode also those of module `evaluator`.
 fn generated_cases(operation: Operation) -> String {
     let mut random = Random::new(1_001);
     let mut calls = Vec::new();
@@ -75,6 +84,9 @@ fn generated_cases(operation: Operation) -> String {
             };
             calls.push(damage::damaged_call(&mut random, operation, &due));
         }
+    }
+    if matches!(operation, Operation::Evaluate | Operation::Decode) {
+        calls.extend(evaluator::calls(&mut random, operation));
     }
     let line = |call: &Call| lines::case(call, &call.run());
     calls.iter().map(line).collect()

@@ -2,6 +2,9 @@
 use crate::answer::done;
 use crate::answer::refused;
 use crate::answer::word;
+use crate::chained::chain_run;
+use crate::evaluator::decode_run;
+use crate::evaluator::evaluate_run;
 use crate::garbler::encode_run;
 use crate::garbler::garble_run;
 use crate::garbler::pick_run;
@@ -103,8 +106,8 @@ fn plain_run(
     plain_leaves(circuit, values, before, answer, after, &mut work[..room])
 }
 
-// By group: 1 encryption, 2 key expansion, 3 doubling, 4 check, 5 plain, 6 garble, 7 encode, 8 pick. What an operation
-// writes goes to `work`, and garble's tokens to `zeros` and `ones`.
+// By group: 1 encryption, 2 key expansion, 3 doubling, 4 check, 5 plain, 6 garble, 7 encode, 8 pick, 10 evaluate,
+// 11 decode, 12 the chain. What an operation writes goes to `work`, and garble's tokens to `zeros` and `ones`.
 pub fn agrees<'a>(
     group: u8,
     a: &'a [u8],
@@ -127,6 +130,9 @@ pub fn agrees<'a>(
         6 => garble_run(a, b, c, d, e, f, g, work, zeros, ones),
         7 => encode_run(a, b, c, d, e, f, g, work),
         8 => pick_run(a, b, c, d, e),
+        10 => evaluate_run(a, b, c, d, e, f, work),
+        11 => decode_run(a, b, c, d, e, f, work),
+        12 => chain_run(a, b, c, d, e, f, g, work, zeros, ones),
         _ => false,
     }
 }

@@ -50,9 +50,24 @@ pub fn refused(f: Refusal, answer: &[u8]) -> bool {
     same(&given, answer)
 }
 
+// Whether an answer is that refusal by one of the chain's calls, whose place among them, 1 to 4, comes first.
+pub fn refused_by(call: u8, f: Refusal, answer: &[u8]) -> bool {
+    let t = number_and_place(f);
+    let p = word(t.place);
+    let given = [call, t.number, p[0], p[1], p[2], p[3]];
+    same(&given, answer)
+}
+
 // Whether an answer is 00 and no number.
 pub fn done(answer: &[u8]) -> bool {
     same(&[0u8], answer)
+}
+
+// Whether an answer is 00 and a number: calls of π.
+pub fn done_calls(calls: usize, answer: &[u8]) -> bool {
+    let p = word(calls);
+    let given = [0, p[0], p[1], p[2], p[3]];
+    same(&given, answer)
 }
 
 // Whether an answer is 00 and two numbers.

@@ -7,6 +7,8 @@ use libc::STDOUT_FILENO;
 mod agree;
 mod answer;
 mod cases;
+mod chained;
+mod evaluator;
 mod fill;
 mod fingerprint;
 mod garbler;
@@ -48,8 +50,13 @@ fn main() {
     run_file(6, b"garble");
     run_file(7, b"encode");
     run_file(8, b"pick");
+    run_file(10, b"evaluate");
+    run_file(11, b"decode");
     run_file(6, b"garble-generated");
     run_file(7, b"encode-generated");
     run_file(8, b"pick-generated");
+    run_file(10, b"evaluate-generated");
+    run_file(11, b"decode-generated");
+    run_file(12, b"chain-generated");
     run_file(9, b"garble-large");
 }

@@ -1,0 +1,13 @@
+use borrow.Author.Needs.{needs}
+use lib.Seq.{length-take-le}
+use mathlib.Core.Path.{sym}
+use native.Mathlib.Omega.{arith}
+use Rattle.vectors.proofs.evaluator.evaluate_run.Statement.{statement}
+use Rattle.vectors.proofs.evaluator.evaluate_run.Tie as tie
+
+pub evaluate-run-spec : {M : Type 1} → statement M
+evaluate-run-spec =
+    tie.close
+    (tie.spec (λ c. search needs) (λ c κs. search needs) (λ c. search needs) (λ c. search needs)
+    (λ c. sym (length-take-le _ _ (omega arith))) (λ c κs. search needs) (λ c. search needs)
+    (λ c. search needs))

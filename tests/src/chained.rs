@@ -1,0 +1,165 @@
+//! Cases of the chain garble, encode, evaluate, decode on one circuit, each call handed what those
+//! before it wrote (01, demand 3).
+
+use crate::block::BLOCK;
+use crate::generate;
+use crate::lines;
+use crate::material;
+use crate::operations as op;
+use crate::random::Random;
+use crate::refused::Refused;
+use crate::scheme::Scheme;
+
+/// The arguments of a chain.
+#[derive(Clone, Debug)]
+struct Chain {
+    circuit: Vec<u8>,
+    seed: Vec<u8>,
+    values: Vec<u8>,
+    scheme: u8,
+    fill: u8,
+    /// The lengths of the buffers: material, zero tokens, one tokens, tokens, wires, bits.
+    lens: [usize; 6],
+}
+
+/// The call that refused, 1 to 4, and its refusal.
+type Ended = Result<(), (u8, Refused)>;
+
+impl Chain {
+    /// Runs the calls in turn, up to the first that refuses, in the buffers given.
+    fn run_in(&self, buffers: &mut [Vec<u8>; 6]) -> Ended {
+        let [material, zeros, ones, tokens, wires, bits] = buffers;
+        let circuit = &self.circuit;
+        let by = |call: u8| move |refused: Refused| (call, refused);
+        let garbled = op::garble(circuit, &self.seed, self.scheme, material, zeros, ones);
+        let length = garbled.map_err(by(1))?.length as usize;
+        let sizes = op::check(circuit).map_err(by(1))?;
+        let list = BLOCK * sizes.n;
+        let end = BLOCK * sizes.wires();
+        let material = &material[..length];
+        let (zeros, ones) = (&zeros[..list], &ones[..list]);
+        op::encode(circuit, &self.values, zeros, ones, tokens).map_err(by(2))?;
+        op::evaluate(circuit, &tokens[..list], material, wires).map_err(by(3))?;
+        let outputs = &wires[end - BLOCK * sizes.m..end];
+        op::decode(circuit, outputs, material, bits).map_err(by(4))
+    }
+
+    /// The line of the chain: circuit, seed, values, setting, answer, and the buffers of the wires
+    /// and the bits after it. `due` is the call that must refuse, and its refusal's number.
+    fn case(&self, due: Option<(u8, u8)>) -> String {
+        let mut buffers = self.lens.map(|length| vec![self.fill; length]);
+        let ended = self.run_in(&mut buffers);
+        let given = ended.err().map(|(call, refused)| (call, refused.number));
+        assert_eq!(given, due, "{self:?}");
+        if ended.is_ok() {
+            self.check_plain(&buffers[5]);
+        }
+        let answer = match ended {
+            Ok(()) => vec![0],
+            Err((call, refused)) => [vec![call], lines::answer(&Err(refused))].concat(),
+        };
+        let mut setting = vec![self.scheme, self.fill];
+        for length in self.lens {
+            assert!(length <= 1 << 16, "more room than `vectors` has");
+            setting.extend((length as u32).to_be_bytes());
+        }
+        let [.., wires, bits] = buffers;
+        let (circuit, seed) = (self.circuit.clone(), self.seed.clone());
+        let values = self.values.clone();
+        lines::line(&[circuit, seed, values, setting, answer, wires, bits])
+    }
+
+    /// The bits of a chain that ran are those of the plain circuit.
+    fn check_plain(&self, bits: &[u8]) {
+        let sizes = op::check(&self.circuit).expect("an accepted circuit");
+        let mut carried = vec![0; sizes.wires()];
+        op::plain(&self.circuit, &self.values, &mut carried).expect("room");
+        assert_eq!(bits[..sizes.m], carried[sizes.wires() - sizes.m..]);
+    }
+}
+
+/// A chain that runs, with room to spare.
+fn chain(random: &mut Random, scheme: Scheme) -> Chain {
+    let circuit = generate::small_circuit(random);
+    let sizes = op::check(&circuit).expect("an accepted circuit");
+    let (list, wires) = (BLOCK * sizes.n, BLOCK * sizes.wires());
+    let material = material::length(sizes, scheme);
+    let needed = [material, wires, list, list, wires, sizes.m];
+    Chain {
+        circuit,
+        seed: generate::seed(random),
+        values: generate::values(random, sizes.n),
+        scheme: scheme.byte(),
+        fill: random.byte(),
+        lens: needed.map(|length| length + random.below(20)),
+    }
+}
+
+/// For each scheme: chains that run, and chains ended by each refusal that a call can give, alone
+/// and with the next.
+pub fn cases() -> String {
+    let mut random = Random::new(3_003);
+    let random = &mut random;
+    let mut text = String::new();
+    for scheme in [Scheme::GaX, Scheme::GaXR, Scheme::HalfGates] {
+        for _ in 0..25 {
+            text += &chain(random, scheme).case(None);
+        }
+        for (call, number) in ENDS {
+            let mut chain = chain(random, scheme);
+            spoil(&mut chain, call, number);
+            text += &chain.case(Some((call, number)));
+        }
+        // Two at once: the first in order is given.
+        for (index, &(call, number)) in ENDS.iter().enumerate().skip(1) {
+            let mut chain = chain(random, scheme);
+            let (first, first_number) = ENDS[index - 1];
+            spoil(&mut chain, call, number);
+            spoil(&mut chain, first, first_number);
+            text += &chain.case(Some((first, first_number)));
+        }
+    }
+    text
+}
+
+/// The calls, and the refusals that they can give in a chain, in order.
+const ENDS: [(u8, u8); 15] = [
+    (1, 1),
+    (1, 2),
+    (1, 3),
+    (1, 4),
+    (1, 5),
+    (1, 6),
+    (1, 7),
+    (1, 8),
+    (1, 14),
+    (1, 19),
+    (2, 9),
+    (2, 10),
+    (2, 19),
+    (3, 19),
+    (4, 19),
+];
+
+/// Changes an argument so that a call gives a refusal.
+fn spoil(chain: &mut Chain, call: u8, number: u8) {
+    let circuit = &mut chain.circuit;
+    match (call, number) {
+        (1, 1) => circuit.truncate(7),
+        (1, 2) => circuit[1] ^= 1,
+        (1, 3) => circuit[4..6].fill(0),
+        (1, 4) => circuit.push(0),
+        (1, 5) => circuit[9] ^= 1,
+        (1, 6) => circuit[10..12].fill(0),
+        (1, 7) => circuit[14] = 3,
+        (1, 8) => chain.seed.push(0),
+        (1, 14) => chain.scheme = 4,
+        (1, 19) => chain.lens[0] = 0,
+        (2, 9) => chain.values.push(0),
+        (2, 10) => chain.values[0] = 2,
+        (2, 19) => chain.lens[3] = 0,
+        (3, 19) => chain.lens[4] = 0,
+        (4, 19) => chain.lens[5] = 0,
+        other => panic!("no way to {other:?}"),
+    }
+}
