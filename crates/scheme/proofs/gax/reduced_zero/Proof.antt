@@ -1,12 +1,12 @@
 use borrow.Author.Needs.{needs}
-use Rattle.model.specs.Gaxr.{reducedZero}
+use Rattle.scheme.proofs.PieceLaws.{reduced-is}
 use Rattle.scheme.specs.Garbled.{site}
 use Rattle.scheme.proofs.gax.reduced_zero.Statement.{statement}
 use Rattle.scheme.proofs.gax.reduced_zero.Tie as tie
 
 returns : tie.Need-returns
-unfolding reducedZero site
-returns c = cc
+unfolding site
+returns c = search reduced-is
 
 pub reduced-zero-spec : {M : Type 1} → statement M
 reduced-zero-spec =

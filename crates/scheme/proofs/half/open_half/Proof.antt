@@ -1,11 +1,10 @@
 use borrow.Author.Needs.{needs}
-use Rattle.model.specs.HalfGates.{joined}
+use Rattle.scheme.proofs.PieceLaws.{joined-is}
 use Rattle.scheme.proofs.half.open_half.Statement.{statement}
 use Rattle.scheme.proofs.half.open_half.Tie as tie
 
 returns : tie.Need-returns
-unfolding joined
-returns c = cc
+returns c = search joined-is
 
 pub open-half-spec : {M : Type 1} → statement M
 open-half-spec =
