@@ -19,7 +19,7 @@ pub enum HeaderRead {
 }
 
 // n from 2 to 4,096; m from 1 to q; q at least 1; n+q at most 65,535 (01, Circuit).
-fn sizes_hold(n: usize, m: usize, q: usize) -> bool
+pub fn sizes_hold(n: usize, m: usize, q: usize) -> bool
     requires { ⌜ (n < 65536) × (q < 65536) ⌝ }
     ensures { λ r. ⌜ r ≡ sizesHold n m q ⌝ }
 {

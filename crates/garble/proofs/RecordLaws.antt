@@ -4,8 +4,8 @@ use native.Mathlib.Omega.{arith}
 use mathlib.Core.Path.{_≡_, ap, _∙_}
 use mathlib.Core.List.{List, [], _∷_, _++_, append-assoc, append-nil}
 use lib.ListN.{length, length-append}
-use Rattle.model.specs.Bytes.{put}
-use Rattle.model.specs.Material.{joinBlocks, two}
+use Rattle.model.specs.Bytes.{put, two}
+use Rattle.model.specs.Material.{joinBlocks}
 use Rattle.model.proofs.Buffers.{put-put}
 use Rattle.garble.specs.Walk.{RecordRoom, recordBytes}
 use Rattle.scheme.specs.declared.GarbledGate.{GarbledGate}

@@ -9,13 +9,13 @@ use lib.ListN.{length, take, drop, take-append-drop}
 use Rattle.model.specs.declared.Gate.{Gate}
 use Rattle.model.specs.declared.Truth.{Truth}
 use Rattle.model.specs.declared.Kind as Kinds
-use Rattle.model.specs.Bytes.{tabulate, put}
+use Rattle.model.specs.Bytes.{tabulate, put, two}
 use Rattle.model.specs.Circuit.{value, Kind, charged, free, refused, kindOf, charge, charges, circuitOf, inputs, outputs, gates, gateAt, gateWire, wire, wires}
 use Rattle.model.specs.Aes.{Block, block, cipher, keyExpansion, aes}
 use Rattle.model.specs.Tokens.{Garbling, garblingOf, seedBlock, offset, inputZeros, freeZero}
 use Rattle.model.specs.Scheme.{Site}
 use Rattle.model.specs.Garbling.{schemeOf, siteOf, zeroAt, zeroStep}
-use Rattle.model.specs.Material.{joinBlocks, recordOf, two}
+use Rattle.model.specs.Material.{joinBlocks, recordOf}
 use Rattle.model.specs.Evaluation.{tokenAt}
 use Rattle.model.proofs.Lists.{tabulate-length}
 use Rattle.model.proofs.Circuits.{charges-le, charges-among}

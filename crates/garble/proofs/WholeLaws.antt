@@ -6,12 +6,12 @@ use mathlib.Core.List.{List, [], _∷_, _++_}
 use lib.ListN.{length, take, drop}
 use lib.Seq.{take-all, take-at}
 use Rattle.model.specs.declared.Sizes.{Sizes}
-use Rattle.model.specs.Bytes.{tabulate, over}
+use Rattle.model.specs.Bytes.{tabulate, over, two}
 use Rattle.model.specs.Circuit.{charges, circuitOf, inputs, outputs, gates, gateAt, lastWires}
 use Rattle.model.specs.Aes.{Block, _⊕_, block, cipher, keyExpansion, aes}
 use Rattle.model.specs.Tokens.{Garbling, garblingOf, coloured, seedBlock, offset, inputZeros, oneToken}
 use Rattle.model.specs.Garbling.{schemeOf, zeroTokens, inputOnes}
-use Rattle.model.specs.Material.{joinBlocks, two, rowsStored, materialLength, header, material}
+use Rattle.model.specs.Material.{joinBlocks, rowsStored, materialLength, header, material}
 use Rattle.model.specs.Operations.{sizesOf}
 use Rattle.model.proofs.Lists.{tabulate-length, tabulate-map}
 use Rattle.model.proofs.Buffers.{over-length, over-over}

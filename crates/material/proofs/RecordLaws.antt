@@ -20,7 +20,7 @@ use Rattle.model.proofs.Verdicts.{yes-given, Turned, no-turned, first-next, fir
 use Rattle.circuit.specs.Answers.{meaning}
 use Rattle.material.specs.declared.records.Cursor.{Cursor}
 use Rattle.material.specs.declared.records.Step.{Step}
-use Rattle.material.specs.Answers.{Filed, AtGate, stepOf, nextAnswer, gateAnswer, recordsVerdict}
+use Rattle.material.specs.Answers.{Filed, AtGate, stepOf, nextAnswer, passAnswer, gateAnswer, recordsVerdict}
 use Rattle.material.proofs.SizeLaws.{inputs-same, code-at, limits, is-n, is-q, few-wires}
 use Rattle.material.proofs.RowLaws.{row-first, row-next, row-room, file-holds}
 
@@ -41,7 +41,34 @@ module _ (s : List ℕ) (at rows due found : ℕ) (is-found : found ≡ be16 s (
 
 pub ruleset next-cases = (next-mark, next-wire, next-fine)
 
--- ---- pass_gate
+-- ---- pass_gate: the code's kind as it was read
+module _ (s : List ℕ) (at rows code due : ℕ) (kind : Kind) (is-kind : meaning kind ≡ kindOf code) where
+  -- a gate with no record
+  passed : isCharged (meaning kind) ≡ false → charge (meaning kind) ≡ 0 → yes at ≡ passAnswer s at rows code due
+  unfolding refuse
+  passed h i = let none : at ≡ at + 0 * (4 + 16 * rows) = omega arith in rw (← is-kind, h, i) (ap yes none)
+
+  pub pass-free : (p q d : ℕ) → kind ≡ Kind.Free p q d → yes at ≡ passAnswer s at rows code due
+  pass-free p q d e = passed (rw e) (rw e)
+
+  pub pass-refused : kind ≡ Kind.Refused → yes at ≡ passAnswer s at rows code due
+  pass-refused e = passed (rw e) (rw e)
+
+  module _ (u v o : Truth) (e : kind ≡ Kind.Charged u v o) where
+    one : charge (kindOf code) ≡ 1
+    one = rw (← is-kind, e)
+
+    pub pass-inside : at + charge (kindOf code) * (4 + 16 * rows) ≤ length s → at + 4 + 16 * rows ≤ length s
+    pass-inside h = omega (arith, rw one at h)
+
+    pub pass-charged : (r : Step) → stepOf r ≡ nextAnswer s at rows due → stepOf r ≡ passAnswer s at rows code due
+    pass-charged r is-r =
+        let whole : at + 4 + 16 * rows ≡ at + 1 * (4 + 16 * rows) = omega arith in
+        is-r ∙ rw (← is-kind, e, whole)
+
+pub ruleset pass-cases = (pass-free, pass-refused, pass-charged)
+
+-- ---- pass_gate_at
 module _ (c : List ℕ) (z : Sizes) (s : List ℕ) (rows k at : ℕ) (turn : AtGate c z s rows k at) where
   inside : k < gates c
   inside = omega (arith, turn .more, is-q c z (turn .known .circuit))
@@ -49,41 +76,20 @@ module _ (c : List ℕ) (z : Sizes) (s : List ℕ) (rows k at : ℕ) (turn : AtG
   pub gate-inside : 8 + 7 * k + 7 ≤ length c
   gate-inside = omega (arith, limits c z (turn .known .circuit) .whole, inside)
 
-  -- gate k and its kind, as they were read
-  module _ (g : Gate) (is-g : g ≡ gateAt c k) (kind : Kind) (is-kind : meaning kind ≡ kindOf (g .code)) where
-    kind-at : kindOf (codeAt (circuitOf c) k) ≡ meaning kind
-    kind-at = rw (code-at c k inside, ← is-g, is-kind)
+  -- gate k as it was read
+  module _ (g : Gate) (is-g : g ≡ gateAt c k) where
+    pub record-inside : at + charge (kindOf (g .code)) * (4 + 16 * rows) ≤ length s
+    record-inside =
+        rw (turn .placed, turn .is-rows, is-g) (omega (arith, row-room c s (file-holds c s (turn .known .filed) .whole) k inside))
 
-    after : rowStart (circuitOf c) s (k + 1) ≡ at + charge (meaning kind) * (4 + 16 * rows)
-    after = rw (row-next c s k inside, ← is-g, is-kind, turn .is-rows, turn .placed)
-
-    at-gate : rowVerdict (circuitOf c) s k ≡ refuse (isCharged (meaning kind) && not (rowRecordAt s at (z .n + k + 1))) 17 (z .n + k + 1)
-    unfolding rowVerdict
-    at-gate = simp (kind-at, ← turn .placed, inputs-same, is-n c z (turn .known .circuit))
-
-    -- a gate with no record
-    passed : isCharged (meaning kind) ≡ false → charge (meaning kind) ≡ 0 → yes at ≡ gateAnswer c s k
-    unfolding refuse
-    passed h i = let none : at ≡ at + 0 * (4 + 16 * rows) = omega arith in rw (at-gate, after, h, i) (ap yes none)
-
-    pub gate-free : (p q d : ℕ) → kind ≡ Kind.Free p q d → yes at ≡ gateAnswer c s k
-    gate-free p q d e = passed (rw e) (rw e)
-
-    pub gate-refused : kind ≡ Kind.Refused → yes at ≡ gateAnswer c s k
-    gate-refused e = passed (rw e) (rw e)
-
-    module _ (u v o : Truth) (e : kind ≡ Kind.Charged u v o) where
-      pub record-inside : at + 4 + 16 * rows ≤ length s
-      record-inside =
-          let one : charge (kindOf (gateAt c k .code)) ≡ 1 = rw (← is-g, ← is-kind, e) in
-          omega (arith, rw one at (row-room c s (file-holds c s (turn .known .filed) .whole) k inside), turn .placed, turn .is-rows)
-
-      pub gate-charged : (r : Step) → stepOf r ≡ nextAnswer s at rows (z .n + k + 1) → stepOf r ≡ gateAnswer c s k
-      gate-charged r is-r =
-          let one : at + 4 + 16 * rows ≡ at + 1 * (4 + 16 * rows) = omega arith in
-          is-r ∙ rw (at-gate, after, e, one)
-
-pub ruleset pass-cases = (gate-free, gate-refused, gate-charged)
+    pub gate-passed : (r : Step) → stepOf r ≡ passAnswer s at rows (g .code) (z .n + k + 1) → stepOf r ≡ gateAnswer c s k
+    gate-passed r is-r =
+        let after : rowStart (circuitOf c) s (k + 1) ≡ at + charge (kindOf (g .code)) * (4 + 16 * rows) =
+        rw (row-next c s k inside, ← is-g, turn .is-rows, turn .placed) in
+        rw (at-gate, after) is-r
+      where
+        at-gate : rowVerdict (circuitOf c) s k ≡ refuse (isCharged (kindOf (g .code)) && not (rowRecordAt s at (z .n + k + 1))) 17 (z .n + k + 1)
+        at-gate = unfold rowVerdict in simp (code-at c k inside, ← is-g, ← turn .placed, inputs-same, is-n c z (turn .known .circuit))
 
 -- ---- check_records: of q gates k have no fault, and the next record is at the cursor
 pub record Reading (c s : List ℕ) (q k : ℕ) (here : Cursor) : Type 0 where

@@ -7,9 +7,9 @@ use lib.ListN.{length, getD}
 use lib.Dec.{ltb, eqb}
 use Rattle.model.specs.declared.Sizes.{Sizes}
 use Rattle.model.specs.Bytes.{be16}
-use Rattle.model.specs.Circuit.{circuitOf, gates, markAt}
+use Rattle.model.specs.Circuit.{circuitOf, gates, kindOf, charge, markAt}
 use Rattle.model.specs.Material.{rowsStored, materialLength}
-use Rattle.model.specs.Refusals.{Verdict, fine, refuse, _then_, firstOf, verdictOf, circuitVerdict, schemeVerdict, fileVerdict, rowStart, rowRecordAt, rowVerdict}
+use Rattle.model.specs.Refusals.{Verdict, fine, refuse, _then_, firstOf, verdictOf, circuitVerdict, schemeVerdict, fileVerdict, isCharged, rowStart, rowRecordAt, rowVerdict}
 use Rattle.model.specs.Operations.{Answer, no, yes, answer, sizesOf}
 use Rattle.material.specs.declared.records.Step.{Step}
 
@@ -45,6 +45,11 @@ stepOf (Step.Fault f) = no (verdictOf f)
 -- past a record of this many rows at an index, which is due for a wire
 abbrev pub nextAnswer : List ℕ → ℕ → ℕ → ℕ → Answer ℕ
 nextAnswer s at rows due = answer (refuse (not (rowRecordAt s at due)) 17 due) (at + 4 + 16 * rows)
+
+-- past the record of a gate of this code and this wire, if it has one: it is at the index
+abbrev pub passAnswer : List ℕ → ℕ → ℕ → ℕ → ℕ → Answer ℕ
+passAnswer s at rows code due =
+    answer (refuse (isCharged (kindOf code) && not (rowRecordAt s at due)) 17 due) (at + charge (kindOf code) * (4 + 16 * rows))
 
 -- gate k of the circuit at its turn, when its record, if it has one, is at the index; rows are those of the material's scheme
 pub record AtGate (c : List ℕ) (z : Sizes) (s : List ℕ) (rows k at : ℕ) : Type 0 where

@@ -2,8 +2,9 @@
 ghost use mathlib.Core.Path.{_≡_};
 ghost use Prim.Native.Nat.{_+_, _*_, _≤_, _<_};
 ghost use lib.ListN.{length};
+ghost use Rattle.model.specs.Circuit.{kindOf, charge};
 ghost use Rattle.model.specs.Operations.{ranOf};
-ghost use Rattle.material.specs.Answers.{Filed, AtGate, stepOf, nextAnswer, gateAnswer, recordsVerdict};
+ghost use Rattle.material.specs.Answers.{Filed, AtGate, stepOf, nextAnswer, passAnswer, gateAnswer, recordsVerdict};
 use crate::marks::mark_at;
 use crate::rows_stored;
 use buffer::read16;
@@ -62,19 +63,34 @@ impl Cursor {
     }
 }
 
-// Gate k at its turn: a charged gate has the record here, and the next is past it; a free gate has none, and an accepted
-// circuit has no refused one.
-fn pass_gate(circuit: &[u8], z: Sizes, material: &[u8], rows: usize, k: usize, here: Cursor) -> Step
+// A gate at its turn, by its code and its wire: a charged gate has the record here, and the next is past it; a free gate has
+// none, and an accepted circuit has no refused one.
+pub fn pass_gate(material: &[u8], rows: usize, code: u8, due: Wire, here: Cursor) -> Step
+    requires { ⌜ here .at + charge (kindOf code) * (4 + 16 * rows) ≤ length (now material) ⌝ }
+    ensures { λ r. ⌜ stepOf r ≡ passAnswer (now (material .entry)) (here .at) rows code (due .0) ⌝ }
+{
+    match code_kind(code) {
+        Kind::Charged(_, _, _) => here.next(material, rows, due),
+        Kind::Free { p: _, q: _, c: _ } => Step::Next(here),
+        Kind::Refused => Step::Next(here),
+    }
+}
+
+// Gate k of a circuit at its turn.
+fn pass_gate_at(
+    circuit: &[u8],
+    z: Sizes,
+    material: &[u8],
+    rows: usize,
+    k: usize,
+    here: Cursor,
+) -> Step
     requires { ⌜ AtGate (now circuit) z (now material) rows k (here .at) ⌝ }
     ensures { λ r. ⌜ stepOf r ≡ gateAnswer (now (circuit .entry)) (now (material .entry)) k ⌝ }
 {
     let g = gate_at(circuit, k);
     let due = Wire((z.n + k + 1) as u16);
-    match code_kind(g.code) {
-        Kind::Charged(_, _, _) => here.next(material, rows, due),
-        Kind::Free { p: _, q: _, c: _ } => Step::Next(here),
-        Kind::Refused => Step::Next(here),
-    }
+    pass_gate(material, rows, g.code, due, here)
 }
 
 // Refusal 17: the gates are gone through in file order, and each charged gate has the next record.
@@ -90,7 +106,7 @@ pub fn check_records(circuit: &[u8], z: Sizes, material: &[u8]) -> Ran
         if q <= k {
             break Ran::Done;
         }
-        match pass_gate(circuit, z, material, rows, k, here) {
+        match pass_gate_at(circuit, z, material, rows, k, here) {
             Step::Next(there) => {
                 here = there;
             }

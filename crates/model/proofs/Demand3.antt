@@ -23,7 +23,8 @@ use Rattle.model.proofs.Blocks.{Blocks, blocks-wide, join-length, join-
 use Rattle.model.proofs.Accepted.{Within, none, more, CircuitHolds, accepted-circuit, accepted-header}
 use Rattle.model.proofs.Lengths.{input-zeros-blocks, input-ones-blocks, zero-tokens-blocks}
 use Rattle.model.proofs.Holds.{Holds, holds-distances, AllHold, hold-at, tokens-blocks}
-use Rattle.model.proofs.OwnMaterial.{first-all, own-material}
+use Rattle.model.proofs.Verdicts.{first-all}
+use Rattle.model.proofs.OwnMaterial.{own-material}
 use Rattle.model.proofs.Chain.{decode-holds, material-ends, inputs-hold, wires-hold, plain-length}
 
 -- ---- the tokens of some wires, from bytes

@@ -26,4 +26,5 @@ pub mod Lengths
 pub mod OneMore
 pub mod Chain
 pub mod OwnMaterial
+pub mod Records
 pub mod Demand3

@@ -8,13 +8,14 @@ use borrow.Author.Tests.{le-ltb, le-leb, eq-eqb}
 use lib.ListN.{length, getD, take, drop, length-append, length-map}
 use lib.Seq.{split-at, getD-append-seam, getD-append-add, length-take-le, take-length}
 use Rattle.model.specs.declared.Gate.{Gate}
-use Rattle.model.specs.Bytes.{be16}
+use Rattle.model.specs.Bytes.{be16, two}
 use Rattle.model.specs.Circuit.{Circuit, Kind, charged, free, refused, kindOf, charges, codeAt, markAt, gateWire, wire, wires}
 use Rattle.model.specs.Aes.{Block, block}
 use Rattle.model.specs.Tokens.{Garbling, colour, inputZeros}
 use Rattle.model.specs.Garbling.{schemeOf, siteOf, zeroStep, zeroTokens}
-use Rattle.model.specs.Material.{two, rowsStored, materialLength, joinBlocks, header, recordOf, records, lastRecord, material}
+use Rattle.model.specs.Material.{rowsStored, materialLength, joinBlocks, header, recordOf, records, lastRecord, material}
 use Rattle.model.specs.Refusals.{Verdict, fine, refuse, _then_, firstOf, isCharged, schemeVerdict, rowStart, fileVerdict, rowRecordAt, rowVerdict, lastVerdict, materialVerdict}
+use Rattle.model.proofs.Verdicts.{first-all}
 use Rattle.model.proofs.Circuits.{wires-length}
 use Rattle.model.proofs.Blocks.{blocks-length}
 use Rattle.model.proofs.Gates.{recordLength}
@@ -23,7 +24,7 @@ use Rattle.model.proofs.Lengths.{input-zeros-blocks, header-length, rec
 
 -- ---- bytes read back
 
-two-back : (x : ℕ) → x ≤ 65535 → x / 256 % 256 * 256 + x % 256 ≡ x
+pub two-back : (x : ℕ) → x ≤ 65535 → x / 256 % 256 * 256 + x % 256 ≡ x
 two-back x h = omega arith
 
 -- a row record with this wire number, after some bytes
@@ -55,12 +56,6 @@ bits-low : (f : ℕ → ℕ) → ((w : ℕ) → f w ≤ 1) → (ws : List ℕ) (
 bits-low f h [] i = omega arith
 bits-low f h (w ∷ ws) zero = h w
 bits-low f h (w ∷ ws) (suc i) = bits-low f h ws i
-
--- ---- a search that finds nothing
-pub first-all : (f : ℕ → Verdict) (q : ℕ) → ((k : ℕ) → k < q → f k ≡ fine) → firstOf f q ≡ fine
-unfolding firstOf _then_
-first-all f zero h = refl
-first-all f (suc q) h = rw (first-all f q (λ k l. h k (omega arith)), h q (omega arith))
 
 module _ (γ : Garbling) (low : 1 ≤ γ .scheme) (high : γ .scheme ≤ 3) (few : γ .circuit .n + length (γ .circuit .gates) ≤ 65535)
     (few-outputs : length (γ .circuit .outputs) ≤ 65535) where

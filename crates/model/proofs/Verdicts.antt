@@ -54,6 +54,12 @@ module _ (f : ℕ → Verdict) where
       let a = then-fine _ _ e in
       ⊎-elim (λ i. rw i (a .1)) (λ i. first-each q k (a .0) i) (eq-or-lt-of-le (le-of-suc-le-suc h))
 
+  -- none at any index: no fault
+  pub first-all : (q : ℕ) → ((k : ℕ) → k < q → f k ≡ fine) → firstOf f q ≡ fine
+  unfolding firstOf _then_
+  first-all zero h = refl
+  first-all (suc q) h = rw (first-all q (λ k l. h k (omega arith)), h q (omega arith))
+
 -- ---- what an answer tells of its verdict
 
 pub record Given {A : Type 0} (v : Verdict) (a b : A) : Type 0 where

@@ -16,6 +16,10 @@ tabulate n f = from 0 n f
 unfoldable pub be16 : List ℕ → ℕ → ℕ
 be16 s at = getD s at 0 * 256 + getD s (at + 1) 0
 
+-- a number of 2 bytes, the higher first
+abbrev pub two : ℕ → List ℕ
+two k = k / 256 % 256 ∷ k % 256 ∷ []
+
 -- the number that bytes are, the highest first
 unfoldable pub number : List ℕ → ℕ
 number [] = 0

@@ -5,7 +5,7 @@ use mathlib.Core.Bool.{Bool, _&&_}
 use lib.ListN.{length, getD}
 use lib.Dec.{leb, ltb, eqb}
 use Rattle.model.specs.declared.Gate.{Gate}
-use Rattle.model.specs.Bytes.{tabulate, be16}
+use Rattle.model.specs.Bytes.{tabulate, be16, two}
 
 -- n inputs, the gates in file order, and the wires of the outputs in their order
 pub record Circuit : Type 0 where
@@ -101,6 +101,20 @@ operandsHold own g = leb 1 (g .a) && ltb (g .a) (g .b) && ltb (g .b) own
 -- the wire number of gate k, from 0: "one wire per gate, n+1 to n+q in file order"
 abbrev pub gateWire : ℕ → ℕ → ℕ
 gateWire n k = n + k + 1
+
+-- ---- "n, m and the gates already read, as a list of records, each with two operands and a code"
+
+-- a gate's record
+unfoldable pub gateBytes : Gate → List ℕ
+gateBytes g = 0x43 ∷ 0x47 ∷ two (g .a) ++ two (g .b) ++ (g .code ∷ [])
+
+unfoldable pub recordBytes : List Gate → List ℕ
+recordBytes [] = []
+recordBytes (g ∷ gs) = gateBytes g ++ recordBytes gs
+
+-- "the bytes made from them"; "q is the list's length"
+unfoldable pub circuitBytes : ℕ → ℕ → List Gate → List ℕ
+circuitBytes n m gs = 0x43 ∷ 0x48 ∷ two n ++ two m ++ two (length gs) ++ recordBytes gs
 
 -- ---- what stands on the wires
 

@@ -1,8 +1,9 @@
 -- Document 01, "Material".
-use Prim.Native.Nat.{ℕ, _+_, _*_, _/_, _%_}
+use Prim.Native.Nat.{ℕ, _+_, _*_}
 use mathlib.Core.List.{List, [], _∷_, _++_, map}
 use lib.ListN.{length, getD}
 use Rattle.model.specs.declared.Gate.{Gate}
+use Rattle.model.specs.Bytes.{two}
 use Rattle.model.specs.Circuit.{Circuit, Kind, charged, free, refused, kindOf, wire}
 use Rattle.model.specs.Aes.{Block, block}
 use Rattle.model.specs.Tokens.{Garbling, colour, inputZeros}
@@ -13,10 +14,6 @@ use Rattle.model.specs.Garbling.{schemeOf, siteOf, zeroStep, zeroTokens}
 unfoldable pub joinBlocks : List Block → List ℕ
 joinBlocks [] = []
 joinBlocks (x ∷ xs) = x ++ joinBlocks xs
-
--- a number of 2 bytes, the higher first
-abbrev pub two : ℕ → List ℕ
-two k = k / 256 % 256 ∷ k % 256 ∷ []
 
 -- "its r rows (r = 4, 3, 2": the rows that a charged gate has under scheme 1, 2 and 3; there is no scheme 0
 unfoldable pub rowsStored : ℕ → ℕ

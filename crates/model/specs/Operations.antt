@@ -4,7 +4,7 @@ use mathlib.Core.Path.{_≡_}
 use mathlib.Core.List.{List, [], _∷_}
 use mathlib.Core.Bool.{not, cond}
 use lib.ListN.{length, getD}
-use lib.Dec.{eqb}
+use lib.Dec.{ltb, eqb}
 use Rattle.model.specs.declared.Sizes.{Sizes}
 use Rattle.model.specs.declared.Checked.{Checked}
 use Rattle.model.specs.declared.Ran.{Ran}
@@ -12,7 +12,7 @@ use Rattle.model.specs.declared.Garbled.{Garbled}
 use Rattle.model.specs.declared.Evaluated.{Evaluated}
 use Rattle.model.specs.declared.Gate.{Gate}
 use Rattle.model.specs.Bytes.{over}
-use Rattle.model.specs.Circuit.{Circuit, kindOf, charge, charges, circuitOf, inputs, outputs, gates, plainValues}
+use Rattle.model.specs.Circuit.{Circuit, kindOf, charge, charges, circuitOf, inputs, outputs, gates, circuitBytes, plainValues}
 use Rattle.model.specs.Tokens.{Garbling, garblingOf}
 use Rattle.model.specs.Garbling.{schemeOf, zeroTokens, inputOnes}
 use Rattle.model.specs.Material.{materialLength, joinBlocks, material}
@@ -139,6 +139,16 @@ evaluateCallsOf c s = calls (schemeOf (getD s 2 0) .evaluateCalls) (circuitOf c 
 pub record EvaluateIs (c ts s o : List ℕ) (r : Answer ℕ) (x : List ℕ) : Type 0 where
   pub answered : r ≡ answer (evaluateVerdict c ts s (length o)) (evaluateCallsOf c s)
   pub left : x ≡ written (evaluateVerdict c ts s (length o)) (evaluateBytes (circuitOf c) ts s) o
+
+-- ---- evaluate, handed n, m and the gates as a list of records (01, Circuit): "the answer that the bytes made from them would get"
+
+-- "more than 65,535 records are refusal 3"
+unfoldable pub evaluateGatesVerdict : ℕ → ℕ → List Gate → List ℕ → List ℕ → ℕ → Verdict
+evaluateGatesVerdict n m gs ts s room = refuse (ltb 65535 (length gs)) 3 2 then evaluateVerdict (circuitBytes n m gs) ts s room
+
+pub record EvaluateGatesIs (n m : ℕ) (gs : List Gate) (ts s o : List ℕ) (r : Answer ℕ) (x : List ℕ) : Type 0 where
+  pub answered : r ≡ answer (evaluateGatesVerdict n m gs ts s (length o)) (evaluateCallsOf (circuitBytes n m gs) s)
+  pub left : x ≡ written (evaluateGatesVerdict n m gs ts s (length o)) (evaluateBytes (circuitOf (circuitBytes n m gs)) ts s) o
 
 -- ---- "Decode (circuit, output tokens of 16m bytes, material): m bytes"
 
