@@ -1,4 +1,4 @@
--- The walk over the gates: one gate's step, and the invariant of the loop. Assumes nothing.
+-- The walk over the gates: one gate's token, and the invariant of the loop. Assumes nothing.
 use Prim.Native.Nat.{ℕ, suc, _+_, _*_, _-_, _≤_, _<_}
 use native.Mathlib.Nat.{add-mul, mul-le-mul-right}
 use native.Mathlib.Numerals.{add-one}
@@ -28,9 +28,31 @@ use Rattle.model.proofs.OneMore.{run-snoc}
 use Rattle.model.proofs.Schemes.{scheme-sound, rows-stored}
 use Rattle.evaluate.specs.declared.gate.Opened.{Opened}
 use Rattle.evaluate.specs.Gate.{GateRoom, OpenedIs}
-use Rattle.evaluate.specs.Walk.{StepStart, StepIs, WalkStart, WiresStart}
+use Rattle.evaluate.specs.Walk.{TokenStart, TokenIs, StepStart, WalkStart, WiresStart}
 
--- ---- evaluate_step
+-- ---- write_token
+module _ (scheme n k : ℕ) (g : Gate) (s : List ℕ) (at : ℕ) (d : List ℕ) (start : TokenStart scheme n k g s at d) where
+  pub token-own : Fits w16 (n + k + 1)
+  token-own = omega (arith, start .few)
+
+  pub token-low-b : 1 ≤ g .b
+  token-low-b = omega (arith, start .order)
+
+  pub token-load-a : 16 * (g .a - 1) + 16 ≤ length d
+  token-load-a = omega (arith, start .a-low, start .order, start .b-high, start .token-room)
+
+  pub token-load-b : 16 * (g .b - 1) + 16 ≤ length d
+  token-load-b = omega (arith, start .order, start .b-high, start .token-room)
+
+  pub token-done : (A B : Block) → A ≡ take 16 (drop (16 * (g .a - 1)) d) → B ≡ take 16 (drop (16 * (g .b - 1)) d)
+      → (x : Opened) → OpenedIs scheme (n + k + 1) (g .code) A B s at x → (d′ : List ℕ) → d′ ≡ put d (16 * (n + k)) (x .token .bytes)
+      → TokenIs scheme n k g s at d (x .next .at) d′
+  unfolding tokenAt
+  token-done A B is-A is-B x is-x d′ is-d = record { token-left = is-d ∙ rw (is-x .is-token, is-A, is-B); is-next = is-x .is-next }
+
+pub ruleset token-cases = (token-own, token-low-b, token-load-a, token-load-b)
+
+-- ---- write_token_at
 module _ (scheme : ℕ) (c : List ℕ) (n k : ℕ) (s : List ℕ) (at : ℕ) (d : List ℕ) (start : StepStart scheme c n k s at d) where
   in-circuit : HeaderHolds c
   in-circuit = accepted-header c (start .accepted)
@@ -41,47 +63,23 @@ module _ (scheme : ℕ) (c : List ℕ) (n k : ℕ) (s : List ℕ) (at : ℕ) (d 
   pub step-small : k < 65536
   step-small = omega (arith, in-circuit .sizes .sum, start .more)
 
-  pub step-own : Fits w16 (n + k + 1)
-  step-own = omega (arith, in-circuit .sizes .sum, start .more, start .is-n)
+  pub step-token : (g : Gate) → g ≡ gateAt c k → TokenStart scheme n k g s at d
+  step-token g is-g =
+      let held : GateHolds (gateWire n k) g = rw (is-g, start .is-n) (accepted-gate c k (start .accepted) (start .more)) in
+      record {
+        few = omega (arith, in-circuit .sizes .sum, start .more, start .is-n);
+        a-low = held .a-low;
+        order = held .order;
+        b-high = held .b-high;
+        record-room = rw is-g (start .record-room);
+        token-room = start .token-room;
+      }
 
-  operands : GateHolds (gateWire (inputs c) k) (gateAt c k)
-  operands = accepted-gate c k (start .accepted) (start .more)
+  pub step-done : (g : Gate) → g ≡ gateAt c k → (next : ℕ) (d′ : List ℕ) → TokenIs scheme n k g s at d next d′
+      → TokenIs scheme n k (gateAt c k) s at d next d′
+  step-done g is-g next d′ t = rw (← is-g) t
 
-  -- gate k as it was read
-  module _ (g : Gate) (is-g : g ≡ gateAt c k) where
-    pub step-low-a : 1 ≤ g .a
-    step-low-a = rw is-g (operands .a-low)
-
-    order : g .a < g .b
-    order = rw is-g (operands .order)
-
-    high : g .b < gateWire n k
-    high = rw (is-g, start .is-n) (operands .b-high)
-
-    pub step-low-b : 1 ≤ g .b
-    step-low-b = omega (arith, order)
-
-    pub step-load-a : 16 * (g .a - 1) + 16 ≤ length d
-    step-load-a = omega (arith, step-low-a, order, high, start .token-room)
-
-    pub step-load-b : 16 * (g .b - 1) + 16 ≤ length d
-    step-load-b = omega (arith, order, high, start .token-room)
-
-    pub step-gate : GateRoom scheme (g .code) at s
-    step-gate = rw is-g (start .record-room)
-
-    pub step-done : (A B : Block) → A ≡ take 16 (drop (16 * (g .a - 1)) d) → B ≡ take 16 (drop (16 * (g .b - 1)) d)
-        → (x : Opened) → OpenedIs scheme (n + k + 1) (g .code) A B s at x → (d′ : List ℕ) → d′ ≡ put d (16 * (n + k)) (x .token .bytes)
-        → StepIs scheme c n k s at d (x .next .at) d′
-    unfolding tokenAt
-    step-done A B is-A is-B x is-x d′ is-d = record {
-      token-left = is-d ∙ rw (is-x .is-token, is-A, is-B, is-g);
-      is-next = is-x .is-next ∙ rw is-g;
-    }
-
-pub ruleset step-cases = (step-record, step-small, step-own, step-low-a, step-low-b, step-load-a, step-load-b, step-gate)
-
--- ---- evaluate_gates
+-- ---- write_tokens
 
 -- the scheme of the material
 abbrev S : List ℕ → Scheme
@@ -193,7 +191,7 @@ module _ (c s : List ℕ) (n q : ℕ) (o : List ℕ) (start : WalkStart c s n q 
             inv .is-at,
           )
 
-      pub walk-turn : (next : ℕ) (d′ : List ℕ) → StepIs (getD s 2 0) c n k s at d next d′ → Walking c s n q o (k + 1) next d′
+      pub walk-turn : (next : ℕ) (d′ : List ℕ) → TokenIs (getD s 2 0) n k (gateAt c k) s at d next d′ → Walking c s n q o (k + 1) next d′
       walk-turn next d′ step =
           let x : Block = openStep (S s) (drop (recordStart c s k) s) (tokensTo c s (cut n o) k) (gateAt c k) in
           let wide : length x ≡ 16 = unfold openStep in (open-at-wide (S s) (scheme-sound (getD s 2 0)) _ _ _ _ _) in

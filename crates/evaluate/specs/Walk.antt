@@ -3,6 +3,7 @@ use Prim.Native.Nat.{ℕ, _+_, _*_, _≤_, _<_}
 use mathlib.Core.Path.{_≡_}
 use mathlib.Core.List.{List}
 use lib.ListN.{length, getD, drop}
+use Rattle.model.specs.declared.Gate.{Gate}
 use Rattle.model.specs.Bytes.{put}
 use Rattle.model.specs.Circuit.{circuitOf, inputs, outputs, gates, gateAt, gateWire, kindOf, charge, charges}
 use Rattle.model.specs.Garbling.{schemeOf}
@@ -11,20 +12,27 @@ use Rattle.model.specs.Evaluation.{openAt, tokenAt}
 use Rattle.model.specs.Refusals.{fine, circuitVerdict}
 use Rattle.evaluate.specs.Gate.{GateRoom}
 
--- gate k comes next, its record at an index if it is charged; d is the buffer of the tokens
+-- gate g is the next, k gates after n inputs, its record at an index if it is charged; d is the buffer of the tokens
+pub record TokenStart (scheme n k : ℕ) (g : Gate) (s : List ℕ) (at : ℕ) (d : List ℕ) : Type 0 where
+  pub few : n + k < 65535
+  pub a-low : 1 ≤ g .a
+  pub order : g .a < g .b
+  pub b-high : g .b < gateWire n k
+  pub record-room : GateRoom scheme (g .code) at s
+  pub token-room : 16 * (n + k) + 16 ≤ length d
+
+-- its token, made from those of its operands in the buffer, which is d at entry and d′ at exit
+pub record TokenIs (scheme n k : ℕ) (g : Gate) (s : List ℕ) (at : ℕ) (d : List ℕ) (next : ℕ) (d′ : List ℕ) : Type 0 where
+  pub token-left : d′ ≡ put d (16 * (n + k)) (openAt (schemeOf scheme) (kindOf (g .code)) (gateWire n k) (drop at s) (tokenAt d (g .a)) (tokenAt d (g .b)))
+  pub is-next : next ≡ at + charge (kindOf (g .code)) * (4 + 16 * schemeOf scheme .stored)
+
+-- the same of gate k of an accepted circuit
 pub record StepStart (scheme : ℕ) (c : List ℕ) (n k : ℕ) (s : List ℕ) (at : ℕ) (d : List ℕ) : Type 0 where
   pub accepted : circuitVerdict c ≡ fine
   pub is-n : n ≡ inputs c
   pub more : k < gates c
   pub record-room : GateRoom scheme (gateAt c k .code) at s
   pub token-room : 16 * (n + k) + 16 ≤ length d
-
--- its token, made from those of its operands in the buffer, which is d at entry and d′ at exit
-pub record StepIs (scheme : ℕ) (c : List ℕ) (n k : ℕ) (s : List ℕ) (at : ℕ) (d : List ℕ) (next : ℕ) (d′ : List ℕ) : Type 0 where
-  pub token-left : d′
-      ≡ put d (16 * (n + k))
-      (openAt (schemeOf scheme) (kindOf (gateAt c k .code)) (gateWire n k) (drop at s) (tokenAt d (gateAt c k .a)) (tokenAt d (gateAt c k .b)))
-  pub is-next : next ≡ at + charge (kindOf (gateAt c k .code)) * (4 + 16 * schemeOf scheme .stored)
 
 -- an accepted circuit of n inputs and q gates, material as long as the circuit asks, and room for a token of every wire
 pub record WalkStart (c s : List ℕ) (n q : ℕ) (o : List ℕ) : Type 0 where

@@ -4,11 +4,11 @@ ghost use mathlib.Core.Path.{_≡_};
 ghost use Prim.Native.Nat.{_*_, _≤_};
 ghost use Rattle.model.specs.Bytes.{over};
 ghost use Rattle.model.specs.Aes.{IsSBox, keyExpansion, fixedKey};
-ghost use Rattle.model.specs.Circuit.{circuitOf};
+ghost use Rattle.model.specs.Circuit.{circuitOf, gateAt};
 ghost use Rattle.model.specs.Garbling.{schemeOf};
 ghost use Rattle.model.specs.Material.{joinBlocks};
 ghost use Rattle.model.specs.Evaluation.{cut, evaluate, evaluateBytes};
-ghost use Rattle.evaluate.specs.Walk.{StepStart, StepIs, WalkStart, WiresStart};
+ghost use Rattle.evaluate.specs.Walk.{TokenStart, TokenIs, StepStart, WalkStart, WiresStart};
 use crate::gate::open_gate;
 use aes::fixed_schedule;
 use aes::s_box;
@@ -17,11 +17,38 @@ use block::store;
 use buffer::copy_front;
 use circuit::gates::gate_at;
 use material::records::Cursor;
+use model::Gate;
 use model::Wire;
 
-// Gate k, from 0, of a circuit of n inputs: its token is written after those of the wires before it. The next row record stands
-// here, and after this gate where the result says.
-fn evaluate_step(
+// Gate k, from 0, of a circuit of n inputs is g: its token is written after those of the wires before it. The next row record
+// stands here, and after this gate where the result says.
+pub fn write_token(
+    t: &[u8; 256],
+    w: &[u8; 176],
+    scheme: u8,
+    n: usize,
+    k: usize,
+    g: Gate,
+    material: &[u8],
+    here: Cursor,
+    wires: &mut [u8],
+) -> Cursor
+    requires { ⌜ IsSBox (now t) ⌝ }
+    requires { ⌜ now w ≡ keyExpansion fixedKey ⌝ }
+    requires { ⌜ TokenStart scheme n k g (now material) (here .at) (now wires) ⌝ }
+    ensures { λ next. ⌜ TokenIs scheme n k g (now (material .entry)) (here .at) (now (wires .entry)) (next .at) (now (wires .exit)) ⌝ }
+{
+    let place = 16 * (n + k);
+    let own = Wire((n + k + 1) as u16);
+    let a = load(wires, 16 * (g.a as usize - 1));
+    let b = load(wires, 16 * (g.b as usize - 1));
+    let x = open_gate(t, w, scheme, own, g.code, a, b, material, here);
+    store(wires, place, x.token);
+    x.next
+}
+
+// The same of gate k as the circuit's bytes have it.
+fn write_token_at(
     t: &[u8; 256],
     w: &[u8; 176],
     scheme: u8,
@@ -35,20 +62,14 @@ fn evaluate_step(
     requires { ⌜ IsSBox (now t) ⌝ }
     requires { ⌜ now w ≡ keyExpansion fixedKey ⌝ }
     requires { ⌜ StepStart scheme (now circuit) n k (now material) (here .at) (now wires) ⌝ }
-    ensures { λ next. ⌜ StepIs scheme (now (circuit .entry)) n k (now (material .entry)) (here .at) (now (wires .entry)) (next .at) (now (wires .exit)) ⌝ }
+    ensures { λ next. ⌜ TokenIs scheme n k (gateAt (now (circuit .entry)) k) (now (material .entry)) (here .at) (now (wires .entry)) (next .at) (now (wires .exit)) ⌝ }
 {
-    let place = 16 * (n + k);
-    let own = Wire((n + k + 1) as u16);
     let g = gate_at(circuit, k);
-    let a = load(wires, 16 * (g.a as usize - 1));
-    let b = load(wires, 16 * (g.b as usize - 1));
-    let x = open_gate(t, w, scheme, own, g.code, a, b, material, here);
-    store(wires, place, x.token);
-    x.next
+    write_token(t, w, scheme, n, k, g, material, here, wires)
 }
 
 // The tokens of the gates, written after the inputs' tokens, which stand at the front of the buffer.
-pub fn evaluate_gates(
+pub fn write_tokens(
     t: &[u8; 256],
     w: &[u8; 176],
     circuit: &[u8],
@@ -66,7 +87,7 @@ pub fn evaluate_gates(
     let mut here = Cursor::first();
     let mut k: usize = 0;
     while k < q {
-        here = evaluate_step(t, w, scheme, circuit, n, k, material, here, wires);
+        here = write_token_at(t, w, scheme, circuit, n, k, material, here, wires);
         k += 1;
     }
 }
@@ -86,7 +107,7 @@ pub fn evaluate_wires(
     let t = s_box();
     let w = fixed_schedule();
     copy_front(tokens, wires);
-    evaluate_gates(&t, &w, circuit, n, q, material, wires);
+    write_tokens(&t, &w, circuit, n, q, material, wires);
 }
 
 // The calls of π that p charged gates take: one each in schemes 1 and 2, two in scheme 3.

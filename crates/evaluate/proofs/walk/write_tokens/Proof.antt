@@ -1,8 +1,8 @@
 use Prim.Native.Nat.{_-_}
 use borrow.Author.Needs.{needs}
 use Rattle.evaluate.proofs.WalkLaws.{Walking, walk-turns}
-use Rattle.evaluate.proofs.walk.evaluate_gates.Statement.{statement}
-use Rattle.evaluate.proofs.walk.evaluate_gates.Tie as tie
+use Rattle.evaluate.proofs.walk.write_tokens.Statement.{statement}
+use Rattle.evaluate.proofs.walk.write_tokens.Tie as tie
 
 abbrev Inv-loop : tie.InvT-loop
 Inv-loop t w circuit n q material wires₀ scheme here₀ k₀ wires here k = Walking circuit material n q wires₀ k (here .at) wires
@@ -10,8 +10,8 @@ Inv-loop t w circuit n q material wires₀ scheme here₀ k₀ wires here k = Wa
 abbrev μ-loop : tie.MeasureT-loop
 μ-loop t w circuit n q material wires₀ scheme here₀ k₀ wires here k = q - k
 
-pub evaluate-gates-spec : {M : Type 1} → statement M
-evaluate-gates-spec =
+pub write-tokens-spec : {M : Type 1} → statement M
+write-tokens-spec =
     tie.close
     (tie.spec Inv-loop μ-loop (λ c. search walk-turns) (λ c κs. search needs) (λ c. search walk-turns)
     (λ c κs. (search needs, (search needs, search walk-turns))) (λ c. search needs)
