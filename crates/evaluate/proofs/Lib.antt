@@ -5,3 +5,4 @@ pub mod LastLaws
 pub mod ReadyLaws
 pub mod EvaluateLaws
 pub mod DecodeLaws
+pub mod GateListLaws

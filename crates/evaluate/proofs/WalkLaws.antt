@@ -28,7 +28,7 @@ use Rattle.model.proofs.OneMore.{run-snoc}
 use Rattle.model.proofs.Schemes.{scheme-sound, rows-stored}
 use Rattle.evaluate.specs.declared.gate.Opened.{Opened}
 use Rattle.evaluate.specs.Gate.{GateRoom, OpenedIs}
-use Rattle.evaluate.specs.Walk.{TokenStart, TokenIs, StepStart, WalkStart, WiresStart}
+use Rattle.evaluate.specs.Walk.{TokenStart, TokenIs, StepStart, WalkStart, WiresStart, S, tokensTo, recordStart, Walking}
 
 -- ---- write_token
 module _ (scheme n k : ℕ) (g : Gate) (s : List ℕ) (at : ℕ) (d : List ℕ) (start : TokenStart scheme n k g s at d) where
@@ -81,18 +81,6 @@ module _ (scheme : ℕ) (c : List ℕ) (n k : ℕ) (s : List ℕ) (at : ℕ) (d 
 
 -- ---- write_tokens
 
--- the scheme of the material
-abbrev S : List ℕ → Scheme
-S s = schemeOf (getD s 2 0)
-
--- the tokens after k gates, from those of the inputs
-pub tokensTo : List ℕ → List ℕ → List Block → ℕ → List Block
-tokensTo c s ts k = run (S s) (tabulate k (gateAt c)) (drop 9 s) ts
-
--- where the record of gate k stands, or would stand
-pub recordStart : List ℕ → List ℕ → ℕ → ℕ
-recordStart c s k = 9 + charges (tabulate k (gateAt c)) * recordLength (S s)
-
 tokens-blocks : (c s : List ℕ) (k : ℕ) {n : ℕ} {ts : List Block} → Blocks n ts → Blocks (n + k) (tokensTo c s ts k)
 unfolding tokensTo
 tokens-blocks c s k {n} r =
@@ -120,13 +108,6 @@ front n o h =
 over-block : {k : ℕ} {xs : List Block} (r : Blocks k xs) (x : Block) (o : List ℕ) → length x ≡ 16 → 16 * k + 16 ≤ length o
     → put (over (joinBlocks xs) o) (16 * k) x ≡ over (joinBlocks (xs ++ (x ∷ []))) o
 over-block {k} {xs} r x o w h = over-put (joinBlocks xs) o x (16 * k) (join-length r) (omega arith) ∙ ap (λ (l : List ℕ). over l o) (sym (join-snoc xs x))
-
--- d is the buffer after k gates of q, and o at the start, whose first n blocks are the inputs' tokens
-pub record Walking (c s : List ℕ) (n q : ℕ) (o : List ℕ) (k at : ℕ) (d : List ℕ) : Type 0 where
-  pub within : k ≤ q
-  pub same-length : length d ≡ length o
-  pub is-at : at ≡ recordStart c s k
-  pub so-far : d ≡ over (joinBlocks (tokensTo c s (cut n o) k)) o
 
 module _ (c s : List ℕ) (n q : ℕ) (o : List ℕ) (start : WalkStart c s n q o) where
   pub walk-scheme : 2 < length s

@@ -3,3 +3,4 @@ pub mod Gate
 pub mod Walk
 pub mod Last
 pub mod Answers
+pub mod GateList

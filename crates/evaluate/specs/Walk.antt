@@ -4,11 +4,13 @@ use mathlib.Core.Path.{_≡_}
 use mathlib.Core.List.{List}
 use lib.ListN.{length, getD, drop}
 use Rattle.model.specs.declared.Gate.{Gate}
-use Rattle.model.specs.Bytes.{put}
+use Rattle.model.specs.Bytes.{tabulate, over, put}
 use Rattle.model.specs.Circuit.{circuitOf, inputs, outputs, gates, gateAt, gateWire, kindOf, charge, charges}
+use Rattle.model.specs.Aes.{Block}
+use Rattle.model.specs.Scheme.{Scheme}
 use Rattle.model.specs.Garbling.{schemeOf}
-use Rattle.model.specs.Material.{materialLength}
-use Rattle.model.specs.Evaluation.{openAt, tokenAt}
+use Rattle.model.specs.Material.{joinBlocks, materialLength}
+use Rattle.model.specs.Evaluation.{cut, openAt, run, tokenAt}
 use Rattle.model.specs.Refusals.{fine, circuitVerdict}
 use Rattle.evaluate.specs.Gate.{GateRoom}
 
@@ -48,3 +50,24 @@ pub record WalkStart (c s : List ℕ) (n q : ℕ) (o : List ℕ) : Type 0 where
 pub record WiresStart (c ts s : List ℕ) (n q : ℕ) (o : List ℕ) : Type 0 where
   pub tokens : length ts ≡ 16 * n
   pub walk : WalkStart c s n q o
+
+-- ---- on the way
+
+-- the scheme of the material
+abbrev pub S : List ℕ → Scheme
+S s = schemeOf (getD s 2 0)
+
+-- the tokens after k gates, from those of the inputs
+unfoldable pub tokensTo : List ℕ → List ℕ → List Block → ℕ → List Block
+tokensTo c s ts k = run (S s) (tabulate k (gateAt c)) (drop 9 s) ts
+
+-- where the record of gate k stands, or would stand
+unfoldable pub recordStart : List ℕ → List ℕ → ℕ → ℕ
+recordStart c s k = 9 + charges (tabulate k (gateAt c)) * (4 + 16 * S s .stored)
+
+-- d is the buffer after k gates of q, and o at the start, whose first n blocks are the inputs' tokens
+pub record Walking (c s : List ℕ) (n q : ℕ) (o : List ℕ) (k at : ℕ) (d : List ℕ) : Type 0 where
+  pub within : k ≤ q
+  pub same-length : length d ≡ length o
+  pub is-at : at ≡ recordStart c s k
+  pub so-far : d ≡ over (joinBlocks (tokensTo c s (cut n o) k)) o

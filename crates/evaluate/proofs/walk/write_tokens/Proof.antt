@@ -1,6 +1,7 @@
 use Prim.Native.Nat.{_-_}
 use borrow.Author.Needs.{needs}
-use Rattle.evaluate.proofs.WalkLaws.{Walking, walk-turns}
+use Rattle.evaluate.specs.Walk.{Walking}
+use Rattle.evaluate.proofs.WalkLaws.{walk-turns}
 use Rattle.evaluate.proofs.walk.write_tokens.Statement.{statement}
 use Rattle.evaluate.proofs.walk.write_tokens.Tie as tie
 

@@ -1,0 +1,437 @@
+-- Evaluation over a list of gate records: a law for each return of the functions of src/list.rt. Assumes nothing.
+use Prim.Native.Nat.{ℕ, suc, _+_, _*_, _≤_, _<_}
+use native.Mathlib.Numerals.{add-one}
+use native.Mathlib.Omega.{arith}
+use mathlib.Core.Path.{_≡_, refl, sym, ap, _∙_}
+use mathlib.Core.Bool.{Bool, true, false, not, _&&_}
+use mathlib.Core.List.{List}
+use borrow.Author.Tests.{le-leb, lt-leb, lt-ltb, le-ltb, eq-eqb, ne-eqb, not-true, not-false}
+use lib.Dec.{leb}
+use lib.ListN.{length, getD}
+use Rattle.model.specs.declared.Gate.{Gate}
+use Rattle.model.specs.declared.Sizes.{Sizes}
+use Rattle.model.specs.declared.Refusal.{Refusal}
+use Rattle.model.specs.declared.Refusal.the-variants.{Limits, TokensLength, Room}
+use Rattle.model.specs.declared.Ran.{Ran}
+use Rattle.model.specs.declared.Evaluated.{Evaluated}
+use Rattle.model.specs.Bytes.{tabulate, over}
+use Rattle.model.specs.Circuit.{circuitOf, inputs, outputs, gates, gateAt, gateWire, kindOf, charge, charges, sizesHold}
+use Rattle.model.specs.Garbling.{schemeOf}
+use Rattle.model.specs.Material.{rowsStored}
+use Rattle.model.specs.Refusals.{Verdict, fine, refused, refuse, _then_, firstOf, numberOf, placeOf, verdictOf, headVerdict, gateVerdict, recordVerdict, gatesVerdict, circuitVerdict, tokensVerdict, materialVerdict, roomVerdict, isCharged, rowStart, rowRecordAt, rowVerdict}
+use Rattle.model.specs.Operations.{no, yes, answer, sizesOf, ranOf, evaluatedOf, evaluateVerdict, evaluateCallsOf, EvaluateIs}
+use Rattle.model.proofs.Lists.{tabulate-snoc}
+use Rattle.model.proofs.Circuits.{charges-snoc}
+use Rattle.model.proofs.Verdicts.{then-fine, yes-given, Turned, no-turned, first-next, first-found}
+use Rattle.circuit.specs.declared.gates.GateRead.{GateRead}
+use Rattle.circuit.specs.declared.values.Ready.{Ready}
+use Rattle.circuit.specs.Answers.{gateOf, gateAnswer}
+use Rattle.material.specs.declared.records.Cursor.{Cursor}
+use Rattle.material.specs.declared.records.Step.{Step}
+use Rattle.material.specs.Answers.{Accepted, Filed, sizesVerdict, stepOf, passAnswer, lastAt}
+use Rattle.material.proofs.SizeLaws.{limits, is-n, is-m, is-q}
+use Rattle.material.proofs.RowLaws.{row-first}
+use Rattle.material.proofs.RecordLaws.{Reading, at-turn, gate-passed, turn-next, turn-fault}
+use Rattle.material.proofs.MaterialLaws.{by-record, by-last, material-file, filed}
+use Rattle.evaluate.specs.declared.list.Walk.{Walk}
+use Rattle.evaluate.specs.Answers.{restVerdict}
+use Rattle.evaluate.specs.Walk.{TokenIs, WiresStart, Walking}
+use Rattle.evaluate.specs.GateList.{Ended, GoesTo, Begun, GateIs, Tried, Checked, Written, Stands, TriedLeads, TryLeads, CheckedLeads, CheckLeads, WriteLeads, VisitLeads, Few, Checks, Writes, Visits}
+use Rattle.evaluate.proofs.ReadyLaws.{evaluate-verdict}
+use Rattle.evaluate.proofs.WalkLaws.{walk-start, walk-turn, walk-end, wires-walk, wires-done}
+use Rattle.evaluate.proofs.EvaluateLaws.{evaluate-start, evaluate-done}
+
+-- ---- begin
+
+neither : {A : Type 0} {b : Bool} → b ≡ false → b ≡ true → A
+neither e f = absurd (let z : _≡_ {A = ℕ} 0 1 = cc in omega arith)
+
+module _ (n m q : ℕ) (r : Walk) where
+  -- 3, where its condition is met
+  limited : (leb q 65535 && sizesHold n m q) ≡ false → Ended (Evaluated.Refused Limits) r → Begun n m q r
+  limited h e = record { goes = λ t. neither h t; stops = λ _. e }
+
+  pub begun-many : 65535 < q → Ended (Evaluated.Refused Limits) r → Begun n m q r
+  begun-many h = limited (rw (lt-leb _ _ h))
+
+  -- the limits as they were tried
+  module _ (few : q ≤ 65535) (b : Bool) (is-b : b ≡ sizesHold n m q) where
+    pub begun-limits : not b ≡ true → Ended (Evaluated.Refused Limits) r → Begun n m q r
+    begun-limits h = limited (rw (le-leb _ _ few, ← is-b, not-true b h))
+
+    pub begun-first : not b ≡ false → (here : Cursor) → here .at ≡ 9 → GoesTo 0 0 (record { n = n; m = m; q = q; p = 0 }) here r → Begun n m q r
+    begun-first h here at g = record {
+      goes = λ _. let e : here ≡ record { at = 9 } = ap (λ (x : ℕ). record { at = x }) at in rw (← e) g;
+      stops = λ e. neither e (rw (le-leb _ _ few, ← is-b, not-false b h));
+    }
+
+pub ruleset begin-cases = (begun-many, begun-limits, begun-first)
+
+-- ---- where the walk stands
+
+module _ (c ts s o : List ℕ) (left : ℕ) (w : Walk) (d : List ℕ) where
+  -- it ended
+  ends : w .going ≡ false → EvaluateIs c ts s o (evaluatedOf (w .answer)) d → Stands c ts s o left w d
+  ends e is = record {
+    more = λ t. neither e t;
+    passes = λ t. neither e t;
+    pass-0 = λ t _. neither e t;
+    pass-1 = λ t _. neither e t;
+    pass-2 = λ t _. neither e t;
+    ended = λ _. is;
+  }
+
+  -- with a refusal
+  refuses : (f : Refusal) → Ended (Evaluated.Refused f) w → d ≡ o → evaluateVerdict c ts s (length o) ≡ verdictOf f → Stands c ts s o left w d
+  refuses f e u v = ends (e .stopped) (record { answered = rw (e .answered, v); left = rw v u })
+
+  -- it goes on, in one of the passes
+  module _ (k : ℕ) (z : Sizes) (here : Cursor) (more : k < gates c) where
+    goes-0 : GoesTo 0 k z here w → Tried c o left k z d → Stands c ts s o left w d
+    goes-0 g t = record {
+      more = λ _. rw (g .is-k) more;
+      passes = λ _. omega (arith, g .is-pass);
+      pass-0 = λ _ _. rw (g .is-k, g .is-z) t;
+      pass-1 = λ _ e. absurd (omega (arith, g .is-pass));
+      pass-2 = λ _ e. absurd (omega (arith, g .is-pass));
+      ended = λ e. neither e (g .going);
+    }
+
+    goes-1 : GoesTo 1 k z here w → Checked c ts s o left k z (here .at) d → Stands c ts s o left w d
+    goes-1 g t = record {
+      more = λ _. rw (g .is-k) more;
+      passes = λ _. omega (arith, g .is-pass);
+      pass-0 = λ _ e. absurd (omega (arith, g .is-pass));
+      pass-1 = λ _ _. rw (g .is-k, g .is-z, g .is-here) t;
+      pass-2 = λ _ e. absurd (omega (arith, g .is-pass));
+      ended = λ e. neither e (g .going);
+    }
+
+    goes-2 : GoesTo 2 k z here w → Written c ts s o left k z (here .at) d → Stands c ts s o left w d
+    goes-2 g t = record {
+      more = λ _. rw (g .is-k) more;
+      passes = λ _. omega (arith, g .is-pass);
+      pass-0 = λ _ e. absurd (omega (arith, g .is-pass));
+      pass-1 = λ _ e. absurd (omega (arith, g .is-pass));
+      pass-2 = λ _ _. rw (g .is-k, g .is-z, g .is-here) t;
+      ended = λ e. neither e (g .going);
+    }
+
+-- ---- evaluate's verdict where a gate has a fault
+by-gate : (c ts s : List ℕ) (room k i x : ℕ) → headVerdict c ≡ fine → gatesVerdict c (inputs c) k ≡ fine → k < gates c
+    → recordVerdict c (inputs c) k ≡ refused i x → evaluateVerdict c ts s room ≡ refused i x
+unfolding circuitVerdict _then_
+by-gate c ts s room k i x head before h e =
+    rw (evaluate-verdict c ts s room, head, first-found (recordVerdict c (inputs c)) k (gates c) i x before h e)
+
+-- ---- and on an accepted circuit
+module _ (c ts s : List ℕ) (room : ℕ) (accepted : circuitVerdict c ≡ fine) where
+  by-rest : evaluateVerdict c ts s room ≡ restVerdict c (inputs c) ts s (16 * (inputs c + gates c)) room
+  unfolding _then_
+  by-rest = rw (evaluate-verdict c ts s room, accepted)
+
+  verdict-tokens : (length ts ≡ 16 * inputs c → ⊥) → evaluateVerdict c ts s room ≡ refused 11 (length ts)
+  unfolding restVerdict tokensVerdict _then_ refuse
+  verdict-tokens h = rw (by-rest, ne-eqb _ _ h)
+
+  module _ (l : length ts ≡ 16 * inputs c) where
+    verdict-material : (f : Refusal) → verdictOf f ≡ materialVerdict (circuitOf c) s → evaluateVerdict c ts s room ≡ verdictOf f
+    unfolding restVerdict tokensVerdict _then_ refuse
+    verdict-material f h = rw (by-rest, eq-eqb _ _ l, ← h)
+
+    module _ (formed : fine ≡ materialVerdict (circuitOf c) s) where
+      verdict-room : room < 16 * (inputs c + gates c) → evaluateVerdict c ts s room ≡ refused 19 (16 * (inputs c + gates c))
+      unfolding restVerdict tokensVerdict roomVerdict _then_ refuse
+      verdict-room h = rw (by-rest, eq-eqb _ _ l, ← formed, lt-ltb _ _ h)
+
+      verdict-fine : 16 * (inputs c + gates c) ≤ room → evaluateVerdict c ts s room ≡ fine
+      unfolding restVerdict tokensVerdict roomVerdict _then_ refuse
+      verdict-fine h = rw (by-rest, eq-eqb _ _ l, ← formed, le-ltb _ _ h)
+
+-- what it tells that nothing refuses
+module _ (c ts s o : List ℕ) (z : Sizes) where
+  accepted-by : z ≡ sizesOf c → evaluateVerdict c ts s (length o) ≡ fine → Accepted c z
+  accepted-by is v = record { accepted = then-fine _ _ (rw (evaluate-verdict c ts s (length o)) at v) .0; sizes = is }
+
+  wires : Accepted c z → evaluateVerdict c ts s (length o) ≡ fine → WiresStart c ts s (inputs c) (gates c) o
+  wires known v =
+      rw (is-n c z known, is-q c z known) at (evaluate-start c ts s o (Ready.Go z) (rw (v, ← known .sizes)) z refl)
+
+-- ---- gate_tried
+
+sizes-are : (z : Sizes) (a b e f : ℕ) → z .n ≡ a → z .m ≡ b → z .q ≡ e → z .p ≡ f → z ≡ record { n = a; m = b; q = e; p = f }
+sizes-are z a b e f i j k l = rw (← i, ← j, ← k, ← l)
+
+-- all gates were tried: the circuit is accepted
+all-tried : (c o d : List ℕ) (left k : ℕ) (z : Sizes) → Tried c o left k z d → z .q ≤ k → Accepted c z
+unfolding circuitVerdict _then_ sizesOf circuitOf
+all-tried c o d left k z t h =
+    let e : k ≡ gates c = omega (arith, t .within, t .is-q) in
+    record {
+      accepted = rw (t .head) (rw e at (t .no-fault));
+      sizes = sizes-are z _ _ _ _ (t .is-n) (t .is-m) (t .is-q) (rw e at (t .counted));
+    }
+
+module _ (ts s : List ℕ) (k : ℕ) (z : Sizes) (r : Walk) where
+  pub tried-next : k + 1 < z .q → (here : Cursor) → GoesTo 0 (k + 1) z here r → TriedLeads ts s k z r
+  tried-next h here g = record { leads = λ c o d left t. goes-0 c ts s o left r d (k + 1) z here (omega (arith, t .is-q)) g t }
+
+  module _ (last : z .q ≤ k + 1) where
+    pub tried-tokens : (length ts ≡ 16 * z .n → ⊥) → Ended (Evaluated.Refused (TokensLength (length ts))) r → TriedLeads ts s k z r
+    tried-tokens h e = record {
+      leads = λ c o d left t.
+          let known = all-tried c o d left (k + 1) z t last in
+          refuses c ts s o left r d (TokensLength (length ts)) e (t .untouched)
+          (verdict-tokens c ts s (length o) (known .accepted) (rw (t .is-n) at h));
+    }
+
+    -- the header and the length of the material as they were tried
+    module _ (l : length ts ≡ 16 * z .n) (u : Ran) (is-u : ranOf u ≡ sizesVerdict z s) where
+      pub tried-file : (f : Refusal) → u ≡ Ran.Refused f → Ended (Evaluated.Refused f) r → TriedLeads ts s k z r
+      tried-file f i e = record {
+        leads = λ c o d left t.
+            let known = all-tried c o d left (k + 1) z t last in
+            refuses c ts s o left r d f e (t .untouched)
+            (verdict-material c ts s (length o) (known .accepted) (rw (t .is-n) at l) f (material-file c z s known u is-u f i));
+      }
+
+      pub tried-all : u ≡ Ran.Done → (here : Cursor) → here .at ≡ 9 → GoesTo 1 0 z here r → TriedLeads ts s k z r
+      tried-all i here at g = record {
+        leads = λ c o d left t.
+            let known = all-tried c o d left (k + 1) z t last in
+            let sizes = limits c z known .sizes in
+            goes-1 c ts s o left r d 0 z here (omega (arith, sizes .m-low, sizes .m-high)) g
+            (record {
+              known = filed c z s known u is-u i;
+              tokens = rw (t .is-n) at l;
+              within = omega arith;
+              no-fault = unfold firstOf in refl;
+              placed = at ∙ sym (row-first c s);
+              untouched = t .untouched;
+              turns = omega (arith, t .turns, t .is-q, t .within, last);
+            });
+      }
+
+pub ruleset tried-cases = (tried-next, tried-tokens, tried-file, tried-all)
+
+-- ---- try_gate: what was found at the gate
+module _ (ts s : List ℕ) (w : Walk) (g : Gate) (found : GateRead) (is-found : gateOf found ≡ gateAnswer (w .z .n + w .k + 1) g) where
+  -- its verdict is that of the record
+  at-record : (c : List ℕ) → GateIs c (w .k) g → w .z .n ≡ inputs c → recordVerdict c (inputs c) (w .k) ≡ gateVerdict (w .z .n + w .k + 1) g
+  unfolding recordVerdict refuse _then_
+  at-record c is e = rw (is .mark, ← is .is-g, e)
+
+  -- without a fault, it adds its charge
+  module _ (r : Walk) (z : Sizes) (same : (z .n ≡ w .z .n) × (z .m ≡ w .z .m) × (z .q ≡ w .z .q)) (x : ℕ) (is-yes : gateOf found ≡ yes x)
+      (adds : z .p ≡ w .z .p + x) (next : TriedLeads ts s (w .k) z r) where
+    goes-on : TryLeads ts s w g r
+    goes-on = record {
+      leads = λ c o d left h is t.
+          let v = yes-given (gateVerdict (w .z .n + w .k + 1) g) x (charge (kindOf (g .code))) (sym is-yes ∙ is-found) in
+          next .leads c o d left
+          (record {
+            head = t .head;
+            is-n = same .0 ∙ t .is-n;
+            is-m = same .1 ∙ t .is-m;
+            is-q = same .2 ∙ t .is-q;
+            within = omega arith;
+            no-fault = first-next _ (w .k) (t .no-fault) (at-record c is (t .is-n) ∙ v .is-fine);
+            counted = rw (add-one, tabulate-snoc (w .k) (gateAt c), charges-snoc, ← is .is-g, ← t .counted, ← v .is-result) adds;
+            untouched = t .untouched;
+            turns = omega (arith, t .turns);
+          });
+    }
+
+  pub try-charged : found ≡ GateRead.Charged → (r : Walk) → TriedLeads ts s (w .k) (record { n = w .z .n; m = w .z .m; q = w .z .q; p = w .z .p + 1 }) r
+      → TryLeads ts s w g r
+  try-charged e r next = goes-on r _ (refl, refl, refl) 1 (rw e) refl next
+
+  pub try-free : found ≡ GateRead.Free → (r : Walk) → TriedLeads ts s (w .k) (w .z) r → TryLeads ts s w g r
+  try-free e r next = goes-on r (w .z) (refl, refl, refl) 0 (rw e) (omega arith) next
+
+  pub try-fault : (f : Refusal) → found ≡ GateRead.Fault f → (r : Walk) → Ended (Evaluated.Refused f) r → TryLeads ts s w g r
+  try-fault f e r is-r = record { leads = λ c o d left h is t. refuses c ts s o left r d f is-r (t .untouched) (verdict c o d left h is t) }
+    where
+      verdict : (c o d : List ℕ) (left : ℕ) → w .k < gates c → GateIs c (w .k) g → Tried c o (suc left) (w .k) (w .z) d
+          → evaluateVerdict c ts s (length o) ≡ verdictOf f
+      verdict c o d left h is t =
+          let v : Turned (gateVerdict (w .z .n + w .k + 1) g) (verdictOf f) = no-turned _ _ _ (rw e at is-found) in
+          let k : recordVerdict c (inputs c) (w .k) ≡ refused (v .number) (v .place) = at-record c is (t .is-n) ∙ v .is-v in
+          by-gate c ts s (length o) (w .k) (v .number) (v .place) (t .head) (t .no-fault) h k ∙ sym (v .is-w)
+
+pub ruleset try-cases = (try-charged, try-free, try-fault)
+
+-- ---- record_checked
+
+module _ (ts s : List ℕ) (k : ℕ) (z : Sizes) (there : Cursor) (d : List ℕ) (r : Walk) where
+  pub checked-next : k + 1 < z .q → GoesTo 1 (k + 1) z there r → CheckedLeads ts s k z (there .at) d r d
+  checked-next h g = record {
+    leads = λ c o left t. goes-1 c ts s o left r d (k + 1) z there (omega (arith, is-q c z (t .known .circuit))) g t;
+  }
+
+  -- all row records were checked
+  module _ (last : z .q ≤ k + 1) (u : Ran) (is-u : ranOf u ≡ lastAt s (there .at) (z .m)) where
+    -- and the last record: that is the material's verdict
+    all-checked : (c o : List ℕ) (left : ℕ) → Checked c ts s o left (k + 1) z (there .at) d → ranOf u ≡ materialVerdict (circuitOf c) s
+    all-checked c o left t =
+        let e : k + 1 ≡ gates c = omega (arith, t .within, is-q c z (t .known .circuit)) in
+        by-last c z s (t .known) (rw e at (t .no-fault)) (ranOf u) (there .at) (rw e at (t .placed)) is-u
+
+    pub checked-last : (f : Refusal) → u ≡ Ran.Refused f → Ended (Evaluated.Refused f) r → CheckedLeads ts s k z (there .at) d r d
+    checked-last f i e = record {
+      leads = λ c o left t.
+          refuses c ts s o left r d f e (t .untouched)
+          (verdict-material c ts s (length o) (t .known .circuit .accepted) (t .tokens) f (rw i at (all-checked c o left t)));
+    }
+
+    module _ (i : u ≡ Ran.Done) where
+      pub checked-room : length d < 16 * (z .n + z .q) → Ended (Evaluated.Refused (Room (16 * (z .n + z .q)))) r → CheckedLeads ts s k z (there .at) d r d
+      checked-room h e = record {
+        leads = λ c o left t.
+            let k = t .known .circuit in
+            let v = verdict-room c ts s (length o) (k .accepted) (t .tokens) (rw i at (all-checked c o left t))
+            (rw (← is-n c z k, ← is-q c z k, ← t .untouched) h) in
+            refuses c ts s o left r d (Room (16 * (z .n + z .q))) e (t .untouched) (rw (is-n c z k, is-q c z k) v);
+      }
+
+      pub checked-all : 16 * (z .n + z .q) ≤ length d → (d′ : List ℕ) → d′ ≡ over ts d → (here : Cursor) → here .at ≡ 9 → GoesTo 2 0 z here r
+          → CheckedLeads ts s k z (there .at) d r d′
+      checked-all h d′ is-d here at g = record {
+        leads = λ c o left t.
+            let k = t .known .circuit in
+            let fit = verdict-fine c ts s (length o) (k .accepted) (t .tokens) (rw i at (all-checked c o left t))
+            (rw (← is-n c z k, ← is-q c z k, ← t .untouched) h) in
+            let sizes = limits c z k .sizes in
+            goes-2 c ts s o left r d′ 0 z here (omega (arith, sizes .m-low, sizes .m-high)) g
+            (record {
+              sizes = k .sizes;
+              fit = fit;
+              so-far = rw (is-d, t .untouched) (walk-start c s _ _ (over ts o) (wires-walk c ts s _ _ o (wires c ts s o z k fit) (over ts o) refl) (here .at) at);
+              turns = omega (arith, t .turns, is-q c z k, t .within, last);
+            });
+      }
+
+pub ruleset checked-cases = (checked-next, checked-last, checked-room, checked-all)
+
+-- ---- check_record: what was found at the place of the gate's record
+module _ (ts s : List ℕ) (w : Walk) (g : Gate) (rows : ℕ) (is-rows : rows ≡ rowsStored (getD s 2 0)) where
+  pub check-room : Checks ts s (w .k) (w .z) (w .here .at + charge (kindOf (g .code)) * (4 + 16 * rowsStored (getD s 2 0)))
+      → w .here .at + charge (kindOf (g .code)) * (4 + 16 * rows) ≤ length s
+  check-room a = rw is-rows (omega (arith, a .room))
+
+  module _ (u : Step) (is-u : stepOf u ≡ passAnswer s (w .here .at) rows (g .code) (w .z .n + w .k + 1)) where
+    pub check-past : Checks ts s (w .k) (w .z) (w .here .at + charge (kindOf (g .code)) * (4 + 16 * rowsStored (getD s 2 0)))
+        → (there : Cursor) → u ≡ Step.Next there → Checks ts s (w .k) (w .z) (there .at)
+    check-past a there e =
+        let due = w .z .n + w .k + 1 in
+        let v = yes-given (refuse (isCharged (kindOf (g .code)) && not (rowRecordAt s (w .here .at) due)) 17 due) (there .at)
+        (w .here .at + charge (kindOf (g .code)) * (4 + 16 * rows)) (rw e at is-u) in
+        rw (v .is-result, is-rows) a
+
+    -- gate k of the circuit
+    module _ (c o d : List ℕ) (left : ℕ) (h : w .k < gates c) (is : GateIs c (w .k) g)
+        (t : Checked c ts s o (suc left) (w .k) (w .z) (w .here .at) d) where
+      more : w .k < w .z .q
+      more = omega (arith, is-q c (w .z) (t .known .circuit))
+
+      reading : Reading c s (w .z .q) (w .k) (w .here)
+      reading = record { within = omega (arith, more); no-fault = t .no-fault; placed = t .placed }
+
+      at-gate : stepOf u ≡ answer (rowVerdict (circuitOf c) s (w .k)) (rowStart (circuitOf c) s (w .k + 1))
+      at-gate =
+          gate-passed c (w .z) s rows (w .k) (w .here .at) (at-turn c (w .z) s (t .known) (w .k) (w .here) reading more rows is-rows) g (is .is-g) u is-u
+
+      past-gate : (there : Cursor) → u ≡ Step.Next there → Checked c ts s o left (w .k + 1) (w .z) (there .at) d
+      past-gate there e =
+          let next = turn-next c (w .z) s (t .known) (w .k) (w .here) reading more u at-gate there e in
+          record {
+            known = t .known;
+            tokens = t .tokens;
+            within = omega arith;
+            no-fault = next .no-fault;
+            placed = next .placed;
+            untouched = t .untouched;
+            turns = omega (arith, t .turns);
+          }
+
+      stopped : (f : Refusal) → u ≡ Step.Fault f → evaluateVerdict c ts s (length o) ≡ verdictOf f
+      stopped f e =
+          let v = turn-fault c (w .z) s (t .known) (w .k) (w .here) reading more u at-gate f e in
+          verdict-material c ts s (length o) (t .known .circuit .accepted) (t .tokens) f
+          (by-record c (w .z) s (t .known) (verdictOf f) v (numberOf f) (placeOf f) refl)
+
+    module _ (d : List ℕ) (r : Walk) where
+      pub check-fault : (f : Refusal) → u ≡ Step.Fault f → Ended (Evaluated.Refused f) r → CheckLeads ts s w g d r d
+      check-fault f e is-r = record {
+        leads = λ c o left h is t. refuses c ts s o left r d f is-r (t .untouched) (stopped c o d left h is t f e);
+      }
+
+      pub check-next : (there : Cursor) → u ≡ Step.Next there → (d′ : List ℕ) → CheckedLeads ts s (w .k) (w .z) (there .at) d r d′ → CheckLeads ts s w g d r d′
+      check-next there e d′ next = record { leads = λ c o left h is t. next .leads c o left (past-gate c o d left h is t there e) }
+
+pub ruleset check-cases = (check-fault, check-next)
+
+-- ---- write_next
+module _ (s : List ℕ) (w : Walk) (g : Gate) (d d′ : List ℕ) (there : Cursor)
+    (is : TokenIs (getD s 2 0) (w .z .n) (w .k) g s (w .here .at) d (there .at) d′) (r : Walk) where
+  -- one more token is written
+  one-more : (c ts o : List ℕ) (left : ℕ) → w .k < gates c → GateIs c (w .k) g → Written c ts s o (suc left) (w .k) (w .z) (w .here .at) d
+      → Walking c s (inputs c) (gates c) (over ts o) (w .k + 1) (there .at) d′
+  one-more c ts o left h gate t =
+      let known = accepted-by c ts s o (w .z) (t .sizes) (t .fit) in
+      let step = rw (gate .is-g, is-n c (w .z) known) at is in
+      walk-turn c s _ _ (over ts o) (wires-walk c ts s _ _ o (wires c ts s o (w .z) known (t .fit)) (over ts o) refl) (w .k) (w .here .at) d (t .so-far) h
+      (there .at) d′ step
+
+  pub write-more : w .k + 1 < w .z .q → GoesTo 2 (w .k + 1) (w .z) there r → WriteLeads s w g d r d′
+  write-more h goes = record {
+    leads = λ c ts o left more gate t.
+        let known = accepted-by c ts s o (w .z) (t .sizes) (t .fit) in
+        goes-2 c ts s o left r d′ (w .k + 1) (w .z) there (omega (arith, is-q c (w .z) known)) goes
+        (record { sizes = t .sizes; fit = t .fit; so-far = one-more c ts o left more gate t; turns = omega (arith, t .turns) });
+  }
+
+  pub write-last : w .z .q ≤ w .k + 1 → (calls : ℕ) → calls ≡ w .z .p * schemeOf (getD s 2 0) .evaluateCalls → Ended (Evaluated.Done calls) r
+      → WriteLeads s w g d r d′
+  write-last h calls is-calls e = record {
+    leads = λ c ts o left more gate t.
+        let known = accepted-by c ts s o (w .z) (t .sizes) (t .fit) in
+        let start = wires c ts s o (w .z) known (t .fit) in
+        let all = walk-end c s _ _ (over ts o) (wires-walk c ts s _ _ o start (over ts o) refl) (w .k + 1) (there .at) d′ (one-more c ts o left more gate t)
+        (omega (arith, is-q c (w .z) known)) in
+        let left-is = wires-done c ts s _ _ o start (over ts o) refl d′ all in
+        ends c ts s o left r d′ (e .stopped)
+        (rw (e .answered) (evaluate-done c ts s o (Ready.Go (w .z)) (rw (t .fit, ← t .sizes)) (w .z) refl calls is-calls d′ left-is));
+  }
+
+pub ruleset write-cases = (write-more, write-last)
+
+-- ---- visit
+module _ (ts s : List ℕ) (w : Walk) (g : Gate) (d : List ℕ) (r : Walk) where
+  pub visit-0 : w .pass ≡ 0 → TryLeads ts s w g r → VisitLeads ts s w g d r d
+  visit-0 e next = record { leads = λ c o left go is st. next .leads c o d left (st .more go) is (st .pass-0 go e) }
+
+  module _ (d′ : List ℕ) where
+    pub visit-1 : w .pass ≡ 1 → CheckLeads ts s w g d r d′ → VisitLeads ts s w g d r d′
+    visit-1 e next = record { leads = λ c o left go is st. next .leads c o left (st .more go) is (st .pass-1 go e) }
+
+    pub visit-2 : (w .pass ≡ 0 → ⊥) → (w .pass ≡ 1 → ⊥) → WriteLeads s w g d r d′ → VisitLeads ts s w g d r d′
+    visit-2 h i next = record {
+      leads = λ c o left go is st. next .leads c ts o left (st .more go) is (st .pass-2 go (two (w .pass) h i (st .passes go)));
+    }
+      where
+        two : (p : ℕ) → (p ≡ 0 → ⊥) → (p ≡ 1 → ⊥) → p ≤ 2 → p ≡ 2
+        two p h i l = omega arith
+
+-- what it asks, by the pass
+module _ (ts s d : List ℕ) (w : Walk) (g : Gate) (asked : Visits ts s d w g) where
+  pub asked-0 : w .pass ≡ 0 → Few (w .k) (w .z) (w .k)
+  asked-0 e = asked .pass-0 e
+
+  pub asked-1 : w .pass ≡ 1 → Checks ts s (w .k) (w .z) (w .here .at + charge (kindOf (g .code)) * (4 + 16 * rowsStored (getD s 2 0)))
+  asked-1 e = asked .pass-1 e
+
+  pub asked-2 : (w .pass ≡ 0 → ⊥) → (w .pass ≡ 1 → ⊥) → Writes s d w g
+  asked-2 h i = asked .pass-2 h i
+
+pub ruleset visit-cases = (visit-0, visit-1, visit-2, asked-0, asked-1, asked-2)

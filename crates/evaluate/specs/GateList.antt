@@ -1,0 +1,134 @@
+-- Evaluation over a list of gate records: where the walk over them stands. Document 01, "Circuit" and "Operations".
+-- c are the bytes that n, m and the records make, ts the inputs' tokens, s the material; the buffer was o and is d.
+use Prim.Native.Nat.{ℕ, suc, _+_, _*_, _≤_, _<_}
+use mathlib.Core.Path.{_≡_}
+use mathlib.Core.Bool.{true, false, _&&_}
+use mathlib.Core.List.{List}
+use lib.Dec.{leb}
+use lib.ListN.{length, getD}
+use Rattle.model.specs.declared.Gate.{Gate}
+use Rattle.model.specs.declared.Sizes.{Sizes}
+use Rattle.model.specs.declared.Evaluated.{Evaluated}
+use Rattle.model.specs.declared.Refusal.the-variants.{Limits}
+use Rattle.model.specs.Bytes.{tabulate, over}
+use Rattle.model.specs.Circuit.{circuitOf, inputs, outputs, gates, markAt, recordAt, gateAt, kindOf, charge, charges, sizesHold}
+use Rattle.model.specs.Material.{rowsStored}
+use Rattle.model.specs.Refusals.{fine, firstOf, headVerdict, gatesVerdict, rowStart, rowVerdict}
+use Rattle.model.specs.Operations.{sizesOf, evaluatedOf, evaluateVerdict, EvaluateIs}
+use Rattle.material.specs.declared.records.Cursor.{Cursor}
+use Rattle.material.specs.Answers.{Filed}
+use Rattle.evaluate.specs.declared.list.Walk.{Walk}
+use Rattle.evaluate.specs.Walk.{TokenStart, Walking}
+
+-- ---- the walk's steps
+
+-- on to gate k of a pass
+pub record GoesTo (pass k : ℕ) (z : Sizes) (here : Cursor) (w : Walk) : Type 0 where
+  pub going : w .going ≡ true
+  pub is-pass : w .pass ≡ pass
+  pub is-k : w .k ≡ k
+  pub is-z : w .z ≡ z
+  pub is-here : w .here ≡ here
+
+-- no further
+pub record Ended (a : Evaluated) (w : Walk) : Type 0 where
+  pub stopped : w .going ≡ false
+  pub answered : w .answer ≡ a
+
+-- 3: "more than 65,535 records", or sizes that break a limit
+pub record Begun (n m q : ℕ) (w : Walk) : Type 0 where
+  pub goes : (leb q 65535 && sizesHold n m q) ≡ true → GoesTo 0 0 (record { n = n; m = m; q = q; p = 0 }) (record { at = 9 }) w
+  pub stops : (leb q 65535 && sizesHold n m q) ≡ false → Ended (Evaluated.Refused Limits) w
+
+-- g is gate k of the circuit, and its record has its mark
+pub record GateIs (c : List ℕ) (k : ℕ) (g : Gate) : Type 0 where
+  pub is-g : g ≡ gateAt c k
+  pub mark : markAt c (recordAt k) 0x43 0x47 ≡ true
+
+-- ---- where it stands, with so many turns left
+
+-- pass 0: k gates have no fault
+pub record Tried (c o : List ℕ) (left k : ℕ) (z : Sizes) (d : List ℕ) : Type 0 where
+  pub head : headVerdict c ≡ fine
+  pub is-n : z .n ≡ inputs c
+  pub is-m : z .m ≡ outputs c
+  pub is-q : z .q ≡ gates c
+  pub within : k ≤ gates c
+  pub no-fault : gatesVerdict c (inputs c) k ≡ fine
+  pub counted : z .p ≡ charges (tabulate k (gateAt c))
+  pub untouched : d ≡ o
+  pub turns : left + k ≡ 3 * gates c
+
+-- pass 1: the row records of k gates are right, and the next is at an index
+pub record Checked (c ts s o : List ℕ) (left k : ℕ) (z : Sizes) (at : ℕ) (d : List ℕ) : Type 0 where
+  pub known : Filed c z s
+  pub tokens : length ts ≡ 16 * inputs c
+  pub within : k ≤ gates c
+  pub no-fault : firstOf (rowVerdict (circuitOf c) s) k ≡ fine
+  pub placed : at ≡ rowStart (circuitOf c) s k
+  pub untouched : d ≡ o
+  pub turns : left + k ≡ 2 * gates c
+
+-- pass 2: the tokens of k gates are written
+pub record Written (c ts s o : List ℕ) (left k : ℕ) (z : Sizes) (at : ℕ) (d : List ℕ) : Type 0 where
+  pub sizes : z ≡ sizesOf c
+  pub fit : evaluateVerdict c ts s (length o) ≡ fine
+  pub so-far : Walking c s (inputs c) (gates c) (over ts o) k at d
+  pub turns : left + k ≡ gates c
+
+pub record Stands (c ts s o : List ℕ) (left : ℕ) (w : Walk) (d : List ℕ) : Type 0 where
+  pub more : w .going ≡ true → w .k < gates c
+  pub passes : w .going ≡ true → w .pass ≤ 2
+  pub pass-0 : w .going ≡ true → w .pass ≡ 0 → Tried c o left (w .k) (w .z) d
+  pub pass-1 : w .going ≡ true → w .pass ≡ 1 → Checked c ts s o left (w .k) (w .z) (w .here .at) d
+  pub pass-2 : w .going ≡ true → w .pass ≡ 2 → Written c ts s o left (w .k) (w .z) (w .here .at) d
+  pub ended : w .going ≡ false → EvaluateIs c ts s o (evaluatedOf (w .answer)) d
+
+-- ---- what the walk's functions ask
+
+-- gate k is one of the sizes, and no count overflows
+pub record Few (k : ℕ) (z : Sizes) (most : ℕ) : Type 0 where
+  pub more : k < z .q
+  pub wires : z .n + z .q ≤ 65535
+  pub outputs-few : z .m ≤ z .q
+  pub charged-few : z .p ≤ most
+
+-- past the row record of gate k, at an index, there is room for the last record
+pub record Checks (ts s : List ℕ) (k : ℕ) (z : Sizes) (at : ℕ) : Type 0 where
+  pub few : Few k z (z .q)
+  pub tokens : length ts ≡ 16 * z .n
+  pub header : 9 ≤ length s
+  pub room : at + 2 + z .m ≤ length s
+
+pub record Writes (s d : List ℕ) (w : Walk) (g : Gate) : Type 0 where
+  pub few : Few (w .k) (w .z) (w .z .q)
+  pub header : 9 ≤ length s
+  pub start : TokenStart (getD s 2 0) (w .z .n) (w .k) g s (w .here .at) d
+
+-- a gate at its turn, by the pass
+pub record Visits (ts s d : List ℕ) (w : Walk) (g : Gate) : Type 0 where
+  pub pass-0 : w .pass ≡ 0 → Few (w .k) (w .z) (w .k)
+  pub pass-1 : w .pass ≡ 1 → Checks ts s (w .k) (w .z) (w .here .at + charge (kindOf (g .code)) * (4 + 16 * rowsStored (getD s 2 0)))
+  pub pass-2 : (w .pass ≡ 0 → ⊥) → (w .pass ≡ 1 → ⊥) → Writes s d w g
+
+-- ---- what they lead to, for every circuit and every number of turns left
+
+pub record TriedLeads (ts s : List ℕ) (k : ℕ) (z : Sizes) (r : Walk) : Type 0 where
+  pub leads : (c o d : List ℕ) (left : ℕ) → Tried c o left (k + 1) z d → Stands c ts s o left r d
+
+pub record TryLeads (ts s : List ℕ) (w : Walk) (g : Gate) (r : Walk) : Type 0 where
+  pub leads : (c o d : List ℕ) (left : ℕ) → w .k < gates c → GateIs c (w .k) g → Tried c o (suc left) (w .k) (w .z) d → Stands c ts s o left r d
+
+pub record CheckedLeads (ts s : List ℕ) (k : ℕ) (z : Sizes) (at : ℕ) (d : List ℕ) (r : Walk) (d′ : List ℕ) : Type 0 where
+  pub leads : (c o : List ℕ) (left : ℕ) → Checked c ts s o left (k + 1) z at d → Stands c ts s o left r d′
+
+pub record CheckLeads (ts s : List ℕ) (w : Walk) (g : Gate) (d : List ℕ) (r : Walk) (d′ : List ℕ) : Type 0 where
+  pub leads : (c o : List ℕ) (left : ℕ) → w .k < gates c → GateIs c (w .k) g → Checked c ts s o (suc left) (w .k) (w .z) (w .here .at) d
+      → Stands c ts s o left r d′
+
+pub record WriteLeads (s : List ℕ) (w : Walk) (g : Gate) (d : List ℕ) (r : Walk) (d′ : List ℕ) : Type 0 where
+  pub leads : (c ts o : List ℕ) (left : ℕ) → w .k < gates c → GateIs c (w .k) g → Written c ts s o (suc left) (w .k) (w .z) (w .here .at) d
+      → Stands c ts s o left r d′
+
+pub record VisitLeads (ts s : List ℕ) (w : Walk) (g : Gate) (d : List ℕ) (r : Walk) (d′ : List ℕ) : Type 0 where
+  pub leads : (c o : List ℕ) (left : ℕ) → w .going ≡ true → GateIs c (w .k) g → Stands c ts s o (suc left) w d → Stands c ts s o left r d′

@@ -1,0 +1,233 @@
+// Evaluation over a list of gate records (01, Circuit): for a caller that runs one circuit many times and has its gates already
+// read. No bytes are made of the records: they are walked three times, in the order in which document 01 refuses. Pass 0 looks
+// for faults in the gates (6 and 7), pass 1 checks their row records (17), pass 2 writes their tokens; between the passes stands
+// what is tried once. All is decided here; `walk_gates` below only hands over one record after the other.
+// Whatever enciphers is lent the S-box t and the schedule w of π's fixed key.
+ghost use mathlib.Core.Path.{_≡_};
+ghost use Prim.Native.Nat.{_+_, _*_};
+ghost use lib.ListN.{getD};
+ghost use Rattle.model.specs.Circuit.{kindOf, charge};
+ghost use Rattle.model.specs.Material.{rowsStored};
+ghost use Rattle.model.specs.Aes.{IsSBox, keyExpansion, fixedKey};
+ghost use Rattle.evaluate.specs.GateList.{Ended, GoesTo, Begun, Few, TriedLeads, TryLeads, Checks, CheckedLeads, CheckLeads, Writes, WriteLeads, Visits, VisitLeads};
+use crate::walk::calls_made;
+use crate::walk::write_token;
+use buffer::copy_front;
+use circuit::gates::GateRead;
+use circuit::gates::read_gate;
+use circuit::header::sizes_hold;
+use material::file::check_file;
+use material::last::check_last;
+use material::records::Cursor;
+use material::records::Step;
+use material::records::pass_gate;
+use material::rows_stored;
+use model::Evaluated;
+use model::Gate;
+use model::Ran;
+use model::Refusal;
+use model::Sizes;
+use model::Wire;
+
+// Where the walk over the records stands.
+pub struct Walk {
+    pub going: bool, // whether there is a gate to go to
+    pub k: usize, // that gate, from 0
+    pub pass: u8, // 0, 1 or 2
+    pub z: Sizes, // the sizes; p is counted in pass 0
+    pub here: Cursor, // where the next row record stands
+    pub answer: Evaluated, // if it goes no further
+}
+
+// No further: this is the answer.
+fn ended(answer: Evaluated) -> Walk
+    ensures { λ r. ⌜ Ended answer r ⌝ }
+{
+    let z = Sizes {
+        n: 0,
+        m: 0,
+        q: 0,
+        p: 0,
+    };
+    Walk {
+        going: false,
+        k: 0,
+        pass: 0,
+        z,
+        here: Cursor::first(),
+        answer,
+    }
+}
+
+// On to gate k.
+fn go_to(pass: u8, k: usize, z: Sizes, here: Cursor) -> Walk
+    ensures { λ r. ⌜ GoesTo pass k z here r ⌝ }
+{
+    Walk {
+        going: true,
+        k,
+        pass,
+        z,
+        here,
+        answer: Evaluated::Done(0),
+    }
+}
+
+// Before the first gate: 3, for q records.
+pub fn begin(n: u16, m: u16, q: usize) -> Walk
+    ensures { λ r. ⌜ Begun n m q r ⌝ }
+{
+    let n = n as usize;
+    let m = m as usize;
+    if 65535 < q {
+        return ended(Evaluated::Refused(Refusal::Limits));
+    }
+    if !sizes_hold(n, m, q) {
+        return ended(Evaluated::Refused(Refusal::Limits));
+    }
+    let z = Sizes { n, m, q, p: 0 };
+    go_to(0, 0, z, Cursor::first())
+}
+
+// Gate k has no fault. After the last gate 11 and 12 to 16 are tried.
+fn gate_tried(k: usize, z: Sizes, tokens: &[u8], material: &[u8]) -> Walk
+    requires { ⌜ Few k z (k + 1) ⌝ }
+    ensures { λ r. ⌜ TriedLeads (now (tokens .entry)) (now (material .entry)) k z r ⌝ }
+{
+    let next = k + 1;
+    if next < z.q {
+        return go_to(0, next, z, Cursor::first());
+    }
+    let len = tokens.len();
+    let list = 16 * z.n;
+    if len != list {
+        return ended(Evaluated::Refused(Refusal::TokensLength(len)));
+    }
+    match check_file(material, z) {
+        Ran::Refused(f) => ended(Evaluated::Refused(f)),
+        Ran::Done => go_to(1, 0, z, Cursor::first()),
+    }
+}
+
+// Pass 0 at gate g: 6 and 7, and the charged gates are counted.
+fn try_gate(s: Walk, g: Gate, tokens: &[u8], material: &[u8]) -> Walk
+    requires { ⌜ Few (s .k) (s .z) (s .k) ⌝ }
+    ensures { λ r. ⌜ TryLeads (now (tokens .entry)) (now (material .entry)) s g r ⌝ }
+{
+    let k = s.k;
+    let z = s.z;
+    let n = z.n;
+    let m = z.m;
+    let q = z.q;
+    let p = z.p;
+    let own = Wire((n + k + 1) as u16);
+    match read_gate(own, g) {
+        GateRead::Charged => {
+            let more = Sizes { n, m, q, p: p + 1 };
+            gate_tried(k, more, tokens, material)
+        }
+        GateRead::Free => gate_tried(k, z, tokens, material),
+        GateRead::Fault(f) => ended(Evaluated::Refused(f)),
+    }
+}
+
+// The row record of gate k is right. After the last 18 and 19 are tried, and the inputs' tokens go to the front of the buffer.
+fn record_checked(
+    k: usize,
+    z: Sizes,
+    there: Cursor,
+    tokens: &[u8],
+    material: &[u8],
+    wires: &mut [u8],
+) -> Walk
+    requires { ⌜ Checks (now tokens) (now material) k z (there .at) ⌝ }
+    ensures { λ r. ⌜ CheckedLeads (now (tokens .entry)) (now (material .entry)) k z (there .at) (now (wires .entry)) r (now (wires .exit)) ⌝ }
+{
+    let next = k + 1;
+    if next < z.q {
+        return go_to(1, next, z, there);
+    }
+    match check_last(material, z.m, there.at) {
+        Ran::Refused(f) => ended(Evaluated::Refused(f)),
+        Ran::Done => {
+            let bytes = 16 * (z.n + z.q);
+            if wires.len() < bytes {
+                return ended(Evaluated::Refused(Refusal::Room(bytes)));
+            }
+            copy_front(tokens, wires);
+            go_to(2, 0, z, Cursor::first())
+        }
+    }
+}
+
+// Pass 1 at gate g: 17.
+fn check_record(s: Walk, g: Gate, tokens: &[u8], material: &[u8], wires: &mut [u8]) -> Walk
+    requires { ⌜ Checks (now tokens) (now material) (s .k) (s .z) (s .here .at + charge (kindOf (g .code)) * (4 + 16 * rowsStored (getD (now material) 2 0))) ⌝ }
+    ensures { λ r. ⌜ CheckLeads (now (tokens .entry)) (now (material .entry)) s g (now (wires .entry)) r (now (wires .exit)) ⌝ }
+{
+    let k = s.k;
+    let z = s.z;
+    let due = Wire((z.n + k + 1) as u16);
+    let rows = rows_stored(material[2]);
+    match pass_gate(material, rows, g.code, due, s.here) {
+        Step::Fault(f) => ended(Evaluated::Refused(f)),
+        Step::Next(there) => record_checked(k, z, there, tokens, material, wires),
+    }
+}
+
+// Pass 2 at gate g: its token. After the last the calls of π are the answer.
+fn write_next(
+    t: &[u8; 256],
+    w: &[u8; 176],
+    s: Walk,
+    g: Gate,
+    material: &[u8],
+    wires: &mut [u8],
+) -> Walk
+    requires { ⌜ IsSBox (now t) ⌝ }
+    requires { ⌜ now w ≡ keyExpansion fixedKey ⌝ }
+    requires { ⌜ Writes (now material) (now wires) s g ⌝ }
+    ensures { λ r. ⌜ WriteLeads (now (material .entry)) s g (now (wires .entry)) r (now (wires .exit)) ⌝ }
+{
+    let k = s.k;
+    let z = s.z;
+    let scheme = material[2];
+    let there = write_token(t, w, scheme, z.n, k, g, material, s.here, wires);
+    let next = k + 1;
+    if next < z.q {
+        return go_to(2, next, z, there);
+    }
+    ended(Evaluated::Done(calls_made(scheme, z.p)))
+}
+
+// Gate g at its turn.
+pub fn visit(
+    t: &[u8; 256],
+    w: &[u8; 176],
+    s: Walk,
+    g: Gate,
+    tokens: &[u8],
+    material: &[u8],
+    wires: &mut [u8],
+) -> Walk
+    requires { ⌜ IsSBox (now t) ⌝ }
+    requires { ⌜ now w ≡ keyExpansion fixedKey ⌝ }
+    requires { ⌜ Visits (now tokens) (now material) (now wires) s g ⌝ }
+    ensures { λ r. ⌜ VisitLeads (now (tokens .entry)) (now (material .entry)) s g (now (wires .entry)) r (now (wires .exit)) ⌝ }
+{
+    let pass = s.pass;
+    if pass == 0 {
+        return try_gate(s, g, tokens, material);
+    }
+    if pass == 1 {
+        return check_record(s, g, tokens, material, wires);
+    }
+    write_next(t, w, s, g, material, wires)
+}
+
+// The answer at the end of the walk.
+pub fn finish(s: Walk) -> Evaluated
+    ensures { λ r. ⌜ r ≡ s .answer ⌝ }
+{
+    s.answer
+}
