@@ -16,6 +16,7 @@ use Rattle.model.specs.declared.Ran.{Ran}
 use Rattle.model.specs.declared.Evaluated.{Evaluated}
 use Rattle.model.specs.Bytes.{tabulate, over}
 use Rattle.model.specs.Circuit.{circuitOf, inputs, outputs, gates, gateAt, gateWire, kindOf, charge, charges, sizesHold}
+use Rattle.model.specs.Aes.{IsSBox, keyExpansion, fixedKey}
 use Rattle.model.specs.Garbling.{schemeOf}
 use Rattle.model.specs.Material.{rowsStored}
 use Rattle.model.specs.Refusals.{Verdict, fine, refused, refuse, _then_, firstOf, numberOf, placeOf, verdictOf, headVerdict, gateVerdict, recordVerdict, gatesVerdict, circuitVerdict, tokensVerdict, materialVerdict, roomVerdict, isCharged, rowStart, rowRecordAt, rowVerdict}
@@ -43,7 +44,7 @@ use Rattle.evaluate.proofs.EvaluateLaws.{evaluate-start, evaluate-done}
 
 -- ---- begin
 
-neither : {A : Type 0} {b : Bool} → b ≡ false → b ≡ true → A
+pub neither : {A : Type 0} {b : Bool} → b ≡ false → b ≡ true → A
 neither e f = absurd (let z : _≡_ {A = ℕ} 0 1 = cc in omega arith)
 
 module _ (n m q : ℕ) (r : Walk) where
@@ -82,12 +83,12 @@ module _ (c ts s o : List ℕ) (left : ℕ) (w : Walk) (d : List ℕ) where
   }
 
   -- with a refusal
-  refuses : (f : Refusal) → Ended (Evaluated.Refused f) w → d ≡ o → evaluateVerdict c ts s (length o) ≡ verdictOf f → Stands c ts s o left w d
+  pub refuses : (f : Refusal) → Ended (Evaluated.Refused f) w → d ≡ o → evaluateVerdict c ts s (length o) ≡ verdictOf f → Stands c ts s o left w d
   refuses f e u v = ends (e .stopped) (record { answered = rw (e .answered, v); left = rw v u })
 
   -- it goes on, in one of the passes
   module _ (k : ℕ) (z : Sizes) (here : Cursor) (more : k < gates c) where
-    goes-0 : GoesTo 0 k z here w → Tried c o left k z d → Stands c ts s o left w d
+    pub goes-0 : GoesTo 0 k z here w → Tried c o left k z d → Stands c ts s o left w d
     goes-0 g t = record {
       more = λ _. rw (g .is-k) more;
       passes = λ _. omega (arith, g .is-pass);
@@ -150,10 +151,10 @@ module _ (c ts s : List ℕ) (room : ℕ) (accepted : circuitVerdict c ≡ fine)
 
 -- what it tells that nothing refuses
 module _ (c ts s o : List ℕ) (z : Sizes) where
-  accepted-by : z ≡ sizesOf c → evaluateVerdict c ts s (length o) ≡ fine → Accepted c z
+  pub accepted-by : z ≡ sizesOf c → evaluateVerdict c ts s (length o) ≡ fine → Accepted c z
   accepted-by is v = record { accepted = then-fine _ _ (rw (evaluate-verdict c ts s (length o)) at v) .0; sizes = is }
 
-  wires : Accepted c z → evaluateVerdict c ts s (length o) ≡ fine → WiresStart c ts s (inputs c) (gates c) o
+  pub wires : Accepted c z → evaluateVerdict c ts s (length o) ≡ fine → WiresStart c ts s (inputs c) (gates c) o
   wires known v =
       rw (is-n c z known, is-q c z known) at (evaluate-start c ts s o (Ready.Go z) (rw (v, ← known .sizes)) z refl)
 
@@ -424,7 +425,13 @@ module _ (ts s : List ℕ) (w : Walk) (g : Gate) (d : List ℕ) (r : Walk) where
         two p h i l = omega arith
 
 -- what it asks, by the pass
-module _ (ts s d : List ℕ) (w : Walk) (g : Gate) (asked : Visits ts s d w g) where
+module _ (t k ts s d : List ℕ) (w : Walk) (g : Gate) (asked : Visits t k ts s d w g) where
+  pub asked-t : IsSBox t
+  asked-t = asked .lent .is-t
+
+  pub asked-k : k ≡ keyExpansion fixedKey
+  asked-k = asked .lent .is-k
+
   pub asked-0 : w .pass ≡ 0 → Few (w .k) (w .z) (w .k)
   asked-0 e = asked .pass-0 e
 
@@ -434,4 +441,4 @@ module _ (ts s d : List ℕ) (w : Walk) (g : Gate) (asked : Visits ts s d w g) w
   pub asked-2 : (w .pass ≡ 0 → ⊥) → (w .pass ≡ 1 → ⊥) → Writes s d w g
   asked-2 h i = asked .pass-2 h i
 
-pub ruleset visit-cases = (visit-0, visit-1, visit-2, asked-0, asked-1, asked-2)
+pub ruleset visit-cases = (visit-0, visit-1, visit-2, asked-0, asked-1)

@@ -6,3 +6,5 @@ pub mod ReadyLaws
 pub mod EvaluateLaws
 pub mod DecodeLaws
 pub mod GateListLaws
+pub mod GoodWalk
+pub mod Again

@@ -12,6 +12,7 @@ use Rattle.model.specs.declared.Evaluated.{Evaluated}
 use Rattle.model.specs.declared.Refusal.the-variants.{Limits}
 use Rattle.model.specs.Bytes.{tabulate, over}
 use Rattle.model.specs.Circuit.{circuitOf, inputs, outputs, gates, markAt, recordAt, gateAt, kindOf, charge, charges, sizesHold}
+use Rattle.model.specs.Aes.{IsSBox, keyExpansion, fixedKey}
 use Rattle.model.specs.Material.{rowsStored}
 use Rattle.model.specs.Refusals.{fine, firstOf, headVerdict, gatesVerdict, rowStart, rowVerdict}
 use Rattle.model.specs.Operations.{sizesOf, evaluatedOf, evaluateVerdict, EvaluateIs}
@@ -19,6 +20,11 @@ use Rattle.material.specs.declared.records.Cursor.{Cursor}
 use Rattle.material.specs.Answers.{Filed}
 use Rattle.evaluate.specs.declared.list.Walk.{Walk}
 use Rattle.evaluate.specs.Walk.{TokenStart, Walking}
+
+-- what is lent to whatever enciphers: the S-box, and the schedule of π's fixed key
+pub record Lent (t k : List ℕ) : Type 0 where
+  pub is-t : IsSBox t
+  pub is-k : k ≡ keyExpansion fixedKey
 
 -- ---- the walk's steps
 
@@ -105,8 +111,9 @@ pub record Writes (s d : List ℕ) (w : Walk) (g : Gate) : Type 0 where
   pub header : 9 ≤ length s
   pub start : TokenStart (getD s 2 0) (w .z .n) (w .k) g s (w .here .at) d
 
--- a gate at its turn, by the pass
-pub record Visits (ts s d : List ℕ) (w : Walk) (g : Gate) : Type 0 where
+-- a gate at its turn, by the pass; t and k are what is lent
+pub record Visits (t k ts s d : List ℕ) (w : Walk) (g : Gate) : Type 0 where
+  pub lent : Lent t k
   pub pass-0 : w .pass ≡ 0 → Few (w .k) (w .z) (w .k)
   pub pass-1 : w .pass ≡ 1 → Checks ts s (w .k) (w .z) (w .here .at + charge (kindOf (g .code)) * (4 + 16 * rowsStored (getD s 2 0)))
   pub pass-2 : (w .pass ≡ 0 → ⊥) → (w .pass ≡ 1 → ⊥) → Writes s d w g

@@ -9,9 +9,12 @@ ghost use lib.ListN.{getD};
 ghost use Rattle.model.specs.Circuit.{kindOf, charge};
 ghost use Rattle.model.specs.Material.{rowsStored};
 ghost use Rattle.model.specs.Aes.{IsSBox, keyExpansion, fixedKey};
-ghost use Rattle.evaluate.specs.GateList.{Ended, GoesTo, Begun, Few, TriedLeads, TryLeads, Checks, CheckedLeads, CheckLeads, Writes, WriteLeads, Visits, VisitLeads};
+ghost use Rattle.model.specs.Operations.{evaluatedOf, EvaluateGatesIs};
+ghost use Rattle.evaluate.specs.GateList.{Lent, Ended, GoesTo, Begun, Few, TriedLeads, TryLeads, Checks, CheckedLeads, CheckLeads, Writes, WriteLeads, Visits, VisitLeads};
 use crate::walk::calls_made;
 use crate::walk::write_token;
+use aes::fixed_schedule;
+use aes::s_box;
 use buffer::copy_front;
 use circuit::gates::GateRead;
 use circuit::gates::read_gate;
@@ -210,9 +213,7 @@ pub fn visit(
     material: &[u8],
     wires: &mut [u8],
 ) -> Walk
-    requires { ⌜ IsSBox (now t) ⌝ }
-    requires { ⌜ now w ≡ keyExpansion fixedKey ⌝ }
-    requires { ⌜ Visits (now tokens) (now material) (now wires) s g ⌝ }
+    requires { ⌜ Visits (now t) (now w) (now tokens) (now material) (now wires) s g ⌝ }
     ensures { λ r. ⌜ VisitLeads (now (tokens .entry)) (now (material .entry)) s g (now (wires .entry)) r (now (wires .exit)) ⌝ }
 {
     let pass = s.pass;
@@ -230,4 +231,44 @@ pub fn finish(s: Walk) -> Evaluated
     ensures { λ r. ⌜ r ≡ s .answer ⌝ }
 {
     s.answer
+}
+
+// The walk over the records. This function and the next are proved by hand, since both hold a slice of structs
+// (proofs/list, with a script that writes the longer proof): so they only hand on what the functions above decide.
+pub fn walk_gates(
+    t: &[u8; 256],
+    w: &[u8; 176],
+    n: u16,
+    m: u16,
+    gates: &[Gate],
+    tokens: &[u8],
+    material: &[u8],
+    wires: &mut [u8],
+) -> Evaluated
+    requires { ⌜ Lent (now t) (now w) ⌝ }
+    ensures { λ r. ⌜ EvaluateGatesIs n m (now (gates .entry)) (now (tokens .entry)) (now (material .entry)) (now (wires .entry)) (evaluatedOf r) (now (wires .exit)) ⌝ }
+{
+    let mut s = begin(n, m, gates.len());
+    while s.going {
+        let k = s.k;
+        s = visit(t, w, s, gates[k], tokens, material, wires);
+    }
+    finish(s)
+}
+
+// The tokens of all wires and the calls of π, from n, m, the gates and the inputs' tokens: what `evaluate` answers to the bytes
+// made from them; or the first of refusals 3, 6 and 7, 11, 12 to 18, 19. The S-box and π's schedule are made once, here.
+pub fn evaluate_gates(
+    n: u16,
+    m: u16,
+    gates: &[Gate],
+    tokens: &[u8],
+    material: &[u8],
+    wires: &mut [u8],
+) -> Evaluated
+    ensures { λ r. ⌜ EvaluateGatesIs n m (now (gates .entry)) (now (tokens .entry)) (now (material .entry)) (now (wires .entry)) (evaluatedOf r) (now (wires .exit)) ⌝ }
+{
+    let t = s_box();
+    let w = fixed_schedule();
+    walk_gates(&t, &w, n, m, gates, tokens, material, wires)
 }

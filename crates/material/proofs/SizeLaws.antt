@@ -59,7 +59,7 @@ module _ (c : List ℕ) (z : Sizes) (known : Accepted c z) where
   unfolding sizesOf
   is-q = ap (λ (x : Sizes). x .q) (known .sizes)
 
-  is-p : z .p ≡ charges (circuitOf c .gates)
+  pub is-p : z .p ≡ charges (circuitOf c .gates)
   unfolding sizesOf
   is-p = ap (λ (x : Sizes). x .p) (known .sizes)
 
