@@ -2,3 +2,6 @@
 mod Mix
 mod Words
 mod Rounds
+mod Packing
+mod Tables
+mod Columns

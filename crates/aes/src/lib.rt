@@ -3,10 +3,19 @@ mod sbox; // the S-box
 mod steps; // the state, and the steps of a round
 mod schedule; // key expansion
 mod cipher; // the rounds
+mod lookup; // SubBytes and MixColumns as tables
+mod packed; // the steps of a round by the tables
+mod fast; // the rounds by the tables, of one block and of two
 
 pub use cipher::encrypt;
 pub use cipher::encrypt_block;
 pub use cipher::permute;
+pub use fast::Pair;
+pub use fast::encrypt_fast;
+pub use fast::encrypt_pair;
+pub use fast::permute_fast;
+pub use fast::permute_pair;
+pub use lookup::t_tables;
 pub use sbox::s_box;
 pub use schedule::expand_key;
 pub use schedule::fixed_schedule;

@@ -1,0 +1,2 @@
+-- What this crate's packed words and tables mean, in the model's terms.
+pub mod Tables

@@ -1,0 +1,175 @@
+// The state as packed words, and the steps of a round by the tables. A word is a column, row 0 its lowest byte. ShiftRows is then the
+// choice of the word that a row is taken from, SubBytes and MixColumns are one look-up for each byte, and AddRoundKey is four words.
+use block::Block;
+ghost use mathlib.Core.Path.{_≡_};
+ghost use mathlib.Core.List.{[], _∷_};
+ghost use Prim.Native.Nat.{_<_};
+ghost use Rattle.model.specs.Aes.{word, subWord, mixWord, subBytes, shiftRows, mixColumns, addRoundKey, aesRound};
+ghost use Rattle.aes.specs.Tables.{byteOf, wordOf, stateOf, IsTTables};
+
+// The four columns of a state.
+pub struct Words {
+    pub a: u32,
+    pub b: u32,
+    pub c: u32,
+    pub d: u32,
+}
+
+// Four bytes as a word.
+fn pack(a: u8, b: u8, c: u8, d: u8) -> u32
+    ensures { λ r. ⌜ wordOf r ≡ a ∷ b ∷ c ∷ d ∷ [] ⌝ }
+{
+    (a as u32) + (b as u32) * 0x100 + (c as u32) * 0x10000 + (d as u32) * 0x1000000
+}
+
+// The bytes of a word.
+fn split(x: u32) -> [u8; 4]
+    ensures { λ r. ⌜ r ≡ wordOf x ⌝ }
+{
+    [
+        (x % 256) as u8,
+        ((x >> 8) % 256) as u8,
+        ((x >> 16) % 256) as u8,
+        (x >> 24) as u8,
+    ]
+}
+
+// Word i of a schedule.
+fn key_word(w: &[u8; 176], i: usize) -> u32
+    requires { ⌜ i < 44 ⌝ }
+    ensures { λ r. ⌜ wordOf r ≡ word (now (w .entry)) i ⌝ }
+{
+    let at = 4 * i;
+    pack(w[at], w[at + 1], w[at + 2], w[at + 3])
+}
+
+// A column through SubBytes, ShiftRows and MixColumns: its rows are taken from the words a, b, c and d.
+fn mixed_word(m: &[u32; 1024], a: u32, b: u32, c: u32, d: u32) -> u32
+    requires { ⌜ IsTTables (now m) ⌝ }
+    ensures { λ r. ⌜ wordOf r ≡ mixWord (subWord (byteOf a 0 ∷ byteOf b 1 ∷ byteOf c 2 ∷ byteOf d 3 ∷ [])) ⌝ }
+{
+    let p = (a % 256) as usize;
+    let q = ((b >> 8) % 256) as usize;
+    let r = ((c >> 16) % 256) as usize;
+    let s = (d >> 24) as usize;
+    m[p] ^ m[256 + q] ^ m[512 + r] ^ m[768 + s]
+}
+
+// A column through SubBytes and ShiftRows alone. Table 2 has the S-box's own byte in row 0, table 3 in row 1, and so on around.
+fn shifted_word(m: &[u32; 1024], a: u32, b: u32, c: u32, d: u32) -> u32
+    requires { ⌜ IsTTables (now m) ⌝ }
+    ensures { λ r. ⌜ wordOf r ≡ subWord (byteOf a 0 ∷ byteOf b 1 ∷ byteOf c 2 ∷ byteOf d 3 ∷ []) ⌝ }
+{
+    let p = (a % 256) as usize;
+    let q = ((b >> 8) % 256) as usize;
+    let r = ((c >> 16) % 256) as usize;
+    let s = (d >> 24) as usize;
+    (m[512 + p] & 0xFF) ^ (m[768 + q] & 0xFF00) ^ (m[r] & 0xFF0000) ^ (m[256 + s] & 0xFF000000)
+}
+
+impl Words {
+    // A block's columns.
+    fn of_block(x: Block) -> Words
+        ensures { λ r. ⌜ stateOf r ≡ x .bytes ⌝ }
+    {
+        let s = x.bytes;
+        let a = pack(s[0], s[1], s[2], s[3]);
+        let b = pack(s[4], s[5], s[6], s[7]);
+        let c = pack(s[8], s[9], s[10], s[11]);
+        let d = pack(s[12], s[13], s[14], s[15]);
+        Words { a, b, c, d }
+    }
+
+    // The block of these columns.
+    fn block(self) -> Block
+        ensures { λ r. ⌜ r .bytes ≡ stateOf self ⌝ }
+    {
+        let a = split(self.a);
+        let b = split(self.b);
+        let c = split(self.c);
+        let d = split(self.d);
+        Block {
+            bytes: [
+                a[0],
+                a[1],
+                a[2],
+                a[3],
+                b[0],
+                b[1],
+                b[2],
+                b[3],
+                c[0],
+                c[1],
+                c[2],
+                c[3],
+                d[0],
+                d[1],
+                d[2],
+                d[3],
+            ],
+        }
+    }
+
+    // SubBytes, ShiftRows and MixColumns, §5.1.1 to §5.1.3.
+    fn mixed(self, m: &[u32; 1024]) -> Words
+        requires { ⌜ IsTTables (now m) ⌝ }
+        ensures { λ r. ⌜ stateOf r ≡ mixColumns (shiftRows (subBytes (stateOf self))) ⌝ }
+    {
+        let s = self;
+        let a = mixed_word(m, s.a, s.b, s.c, s.d);
+        let b = mixed_word(m, s.b, s.c, s.d, s.a);
+        let c = mixed_word(m, s.c, s.d, s.a, s.b);
+        let d = mixed_word(m, s.d, s.a, s.b, s.c);
+        Words { a, b, c, d }
+    }
+
+    // SubBytes and ShiftRows, §5.1.1 and §5.1.2.
+    fn shifted(self, m: &[u32; 1024]) -> Words
+        requires { ⌜ IsTTables (now m) ⌝ }
+        ensures { λ r. ⌜ stateOf r ≡ shiftRows (subBytes (stateOf self)) ⌝ }
+    {
+        let s = self;
+        let a = shifted_word(m, s.a, s.b, s.c, s.d);
+        let b = shifted_word(m, s.b, s.c, s.d, s.a);
+        let c = shifted_word(m, s.c, s.d, s.a, s.b);
+        let d = shifted_word(m, s.d, s.a, s.b, s.c);
+        Words { a, b, c, d }
+    }
+
+    // AddRoundKey, §5.1.4: the key of round r is exclusive-ored in.
+    fn add_round_key(self, w: &[u8; 176], r: usize) -> Words
+        requires { ⌜ r < 11 ⌝ }
+        ensures { λ q. ⌜ stateOf q ≡ addRoundKey (now (w .entry)) r (stateOf self) ⌝ }
+    {
+        let i = 4 * r;
+        let a = self.a ^ key_word(w, i);
+        let b = self.b ^ key_word(w, i + 1);
+        let c = self.c ^ key_word(w, i + 2);
+        let d = self.d ^ key_word(w, i + 3);
+        Words { a, b, c, d }
+    }
+
+    // A block after the first AddRoundKey.
+    pub fn start(w: &[u8; 176], x: Block) -> Words
+        ensures { λ r. ⌜ stateOf r ≡ addRoundKey (now (w .entry)) 0 (x .bytes) ⌝ }
+    {
+        Words::of_block(x).add_round_key(w, 0)
+    }
+
+    // A round but the last.
+    pub fn round(self, m: &[u32; 1024], w: &[u8; 176], r: usize) -> Words
+        requires { ⌜ IsTTables (now m) ⌝ }
+        requires { ⌜ r < 11 ⌝ }
+        ensures { λ q. ⌜ stateOf q ≡ aesRound (now (w .entry)) r (stateOf self) ⌝ }
+    {
+        self.mixed(m).add_round_key(w, r)
+    }
+
+    // The last round, which has no MixColumns.
+    pub fn last_round(self, m: &[u32; 1024], w: &[u8; 176]) -> Block
+        requires { ⌜ IsTTables (now m) ⌝ }
+        ensures { λ q. ⌜ q .bytes ≡ addRoundKey (now (w .entry)) 10 (shiftRows (subBytes (stateOf self))) ⌝ }
+    {
+        self.shifted(m).add_round_key(w, 10).block()
+    }
+}
