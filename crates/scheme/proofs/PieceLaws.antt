@@ -1,23 +1,48 @@
 -- A law for each part of a gate: what its pieces are makes it what the scheme defines. Assumes nothing.
 use Prim.Native.Nat.{ℕ, _+_, _*_}
-use mathlib.Core.Path.{_≡_}
-use Rattle.model.specs.Aes.{Block, _⊕_, times, block}
+use mathlib.Core.Path.{_≡_, sym, ap}
+use Rattle.model.specs.Aes.{Block, _⊕_, times, block, π, double, quadruple}
 use Rattle.model.specs.Tokens.{colour}
 use Rattle.model.specs.Scheme.{Site}
-use Rattle.model.specs.Gax.{carried, tokenOf, valueAt, sealed, dualKey}
+use Rattle.model.specs.Gax.{keyBlock, carried, tokenOf, valueAt, sealed, rowAt, dualKey}
 use Rattle.model.specs.Gaxr.{reducedZero}
 use Rattle.model.specs.HalfGates.{hash, joined}
+use Rattle.model.proofs.Xor.{⊕-assoc, ⊕-zero, ⊕-length}
 
 -- the token of a colour: y is R where the token carries v = 1
 pub token-is : (r x : Block) (c v : ℕ) (y a : Block) → a ≡ x ⊕ y → y ≡ times v r → v ≡ carried x c → a ≡ tokenOf r x c
 unfolding tokenOf
 token-is r x c v y a is-a is-y is-v = rw (is-a, is-y, is-v)
 
--- scheme 2's zero token: e is block 0 sealed at colours 0,0
-pub reduced-is : (s : Site) (e : Block) (v : ℕ) (y a z : Block) → a ≡ e ⊕ y → e ≡ sealed dualKey s 0 0 z → z ≡ block 0 → y ≡ times v (s .R)
+-- E under the tokens a and b of colours c and d
+pub sealed-is : (s : Site) (c d : ℕ) (z a b x : Block) (t : ℕ) → x ≡ dualKey a b t z → a ≡ tokenOf (s .R) (s .Xa) c → b ≡ tokenOf (s .R) (s .Xb) d
+    → t ≡ 4 * s .g + 2 * c + d → x ≡ sealed dualKey s c d z
+unfolding sealed
+sealed-is s c d z a b x t is-x is-a is-b is-t = rw (is-x, is-a, is-b, is-t)
+
+-- E of block 0: x is π(k) ⊕ k
+pub mask-is : (a b : Block) (t : ℕ) (k x : Block) → k ≡ keyBlock a b t → x ≡ π k ⊕ k → x ≡ dualKey a b t (block 0)
+unfolding dualKey keyBlock
+mask-is a b t k x is-k is-x = rw (is-x, is-k) (ap (λ (y : Block). π (keyBlock a b t) ⊕ y) (sym (⊕-zero (keyBlock a b t) (⊕-length (double a) (quadruple b ⊕ block t)))))
+
+-- E of z is that of block 0, ⊕ z
+masked : (a b : Block) (t : ℕ) (z : Block) → dualKey a b t (block 0) ⊕ z ≡ dualKey a b t z
+unfolding dualKey keyBlock
+masked a b t z =
+    let k : Block = keyBlock a b t in
+    rw (⊕-zero k (⊕-length (double a) (quadruple b ⊕ block t))) (⊕-assoc (π k) k z)
+
+-- a row, from the mask of its colours: z is the gate's token for its value v, and y is R where v is 1
+pub row-is : (s : Site) (x : Block) (c d : ℕ) (mask y z r : Block) (v : ℕ) → r ≡ mask ⊕ z → mask ≡ sealed dualKey s c d (block 0) → z ≡ x ⊕ y
+    → y ≡ times v (s .R) → v ≡ valueAt s c d → r ≡ rowAt dualKey s x c d
+unfolding rowAt sealed
+row-is s x c d mask y z r v is-r is-mask is-z is-y is-v = rw (is-r, is-mask, is-z, is-y, is-v) (masked _ _ _ _)
+
+-- scheme 2's zero token, from the mask of colours 0,0
+pub reduced-is : (s : Site) (mask : Block) (v : ℕ) (y a : Block) → a ≡ mask ⊕ y → mask ≡ sealed dualKey s 0 0 (block 0) → y ≡ times v (s .R)
     → v ≡ valueAt s 0 0 → a ≡ reducedZero dualKey s
 unfolding reducedZero
-reduced-is s e v y a z is-a is-e is-z is-y is-v = rw (is-a, is-e, is-z, is-y, is-v)
+reduced-is s mask v y a is-a is-mask is-y is-v = rw (is-a, is-mask, is-y, is-v)
 
 -- scheme 3's token, from the two hashes
 pub joined-is : (g : ℕ) (G E A B ha hb x : Block) → x ≡ ha ⊕ times (colour A) G ⊕ hb ⊕ times (colour B) (E ⊕ A)

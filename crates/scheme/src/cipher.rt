@@ -1,9 +1,12 @@
 // What the schemes seal tokens with: the dual-key cipher of schemes 1 and 2, the hash of scheme 3, and a bit times a block.
-use aes::permute;
+use aes::Pair;
+use aes::permute_fast;
+use aes::permute_pair;
 use block::Block;
 ghost use mathlib.Core.Path.{_≡_};
 ghost use Prim.Native.Nat.{_≤_};
-ghost use Rattle.model.specs.Aes.{IsSBox, keyExpansion, fixedKey, times};
+ghost use Rattle.aes.specs.Tables.{IsTTables};
+ghost use Rattle.model.specs.Aes.{keyExpansion, fixedKey, _⊕_, times, block, π};
 ghost use Rattle.model.specs.Gax.{keyBlock, dualKey};
 ghost use Rattle.model.specs.HalfGates.{hashBlock, hash};
 
@@ -29,13 +32,42 @@ fn key_block(a: Block, b: Block, tweak: u64) -> Block
 }
 
 // "E(A,B,T,Z) = π(K) ⊕ K ⊕ Z" (01, Scheme 1): one call of π.
-pub fn dual_key(t: &[u8; 256], w: &[u8; 176], a: Block, b: Block, tweak: u64, z: Block) -> Block
-    requires { ⌜ IsSBox (now t) ⌝ }
+pub fn dual_key(m: &[u32; 1024], w: &[u8; 176], a: Block, b: Block, tweak: u64, z: Block) -> Block
+    requires { ⌜ IsTTables (now m) ⌝ }
     requires { ⌜ now w ≡ keyExpansion fixedKey ⌝ }
     ensures { λ r. ⌜ r .bytes ≡ dualKey (a .bytes) (b .bytes) tweak (z .bytes) ⌝ }
 {
     let k = key_block(a, b, tweak);
-    permute(t, w, k).xor(k.xor(z))
+    permute_fast(m, w, k).xor(k.xor(z))
+}
+
+// π(k) ⊕ k of two blocks, side by side: two calls of π.
+fn mask_pair(m: &[u32; 1024], w: &[u8; 176], k: Block, l: Block) -> Pair
+    requires { ⌜ IsTTables (now m) ⌝ }
+    requires { ⌜ now w ≡ keyExpansion fixedKey ⌝ }
+    ensures { λ r. ⌜ (r .x .bytes ≡ π (k .bytes) ⊕ k .bytes) × (r .y .bytes ≡ π (l .bytes) ⊕ l .bytes) ⌝ }
+{
+    let p = permute_pair(m, w, k, l);
+    let x = p.x.xor(k);
+    let y = p.y.xor(l);
+    Pair { x, y }
+}
+
+// E of block 0 under a token A with two tokens B, side by side: what is sealed is exclusive-ored in afterwards. Two calls of π.
+pub fn dual_pair(
+    m: &[u32; 1024],
+    w: &[u8; 176],
+    a: Block,
+    b: Block,
+    i: u64,
+    c: Block,
+    j: u64,
+) -> Pair
+    requires { ⌜ IsTTables (now m) ⌝ }
+    requires { ⌜ now w ≡ keyExpansion fixedKey ⌝ }
+    ensures { λ r. ⌜ (r .x .bytes ≡ dualKey (a .bytes) (b .bytes) i (block 0)) × (r .y .bytes ≡ dualKey (a .bytes) (c .bytes) j (block 0)) ⌝ }
+{
+    mask_pair(m, w, key_block(a, b, i), key_block(a, c, j))
 }
 
 // "2x ⊕ i" (01, Scheme 3).
@@ -45,12 +77,11 @@ fn hash_block(x: Block, i: u64) -> Block
     x.doubled().xor(Block::of_number(i))
 }
 
-// "H(x,i) = π(2x ⊕ i) ⊕ 2x ⊕ i" (01, Scheme 3): one call of π.
-pub fn hash(t: &[u8; 256], w: &[u8; 176], x: Block, i: u64) -> Block
-    requires { ⌜ IsSBox (now t) ⌝ }
+// "H(x,i) = π(2x ⊕ i) ⊕ 2x ⊕ i" (01, Scheme 3), of two tokens side by side: two calls of π.
+pub fn hash_pair(m: &[u32; 1024], w: &[u8; 176], x: Block, i: u64, y: Block, j: u64) -> Pair
+    requires { ⌜ IsTTables (now m) ⌝ }
     requires { ⌜ now w ≡ keyExpansion fixedKey ⌝ }
-    ensures { λ r. ⌜ r .bytes ≡ hash (x .bytes) i ⌝ }
+    ensures { λ r. ⌜ (r .x .bytes ≡ hash (x .bytes) i) × (r .y .bytes ≡ hash (y .bytes) j) ⌝ }
 {
-    let k = hash_block(x, i);
-    permute(t, w, k).xor(k)
+    mask_pair(m, w, hash_block(x, i), hash_block(y, j))
 }

@@ -3,7 +3,9 @@
 use crate::GarbledGate;
 use crate::Site;
 use crate::cipher::dual_key;
+use crate::cipher::dual_pair;
 use crate::cipher::times;
+use aes::Pair;
 use block::Block;
 use circuit::code::code_value;
 use model::Colour;
@@ -11,7 +13,8 @@ use model::Truth;
 use model::Wire;
 ghost use mathlib.Core.Path.{_≡_};
 ghost use Prim.Native.Nat.{_+_, _*_, _≤_};
-ghost use Rattle.model.specs.Aes.{IsSBox, keyExpansion, fixedKey};
+ghost use Rattle.aes.specs.Tables.{IsTTables};
+ghost use Rattle.model.specs.Aes.{block, keyExpansion, fixedKey};
 ghost use Rattle.model.specs.Tokens.{colour};
 ghost use Rattle.model.specs.Gax.{dualKey, carried, tokenOf, valueAt, sealed, rowAt, gax};
 ghost use Rattle.model.specs.Gaxr.{reducedZero, gaxr};
@@ -50,40 +53,50 @@ fn tweak(g: Wire, c: Colour, d: Colour) -> u64
     4 * (g.0 as u64) + 2 * (c.0 as u64) + (d.0 as u64)
 }
 
-// E of z under the operands' tokens of colours c and d: one call of π.
-fn seal(t: &[u8; 256], w: &[u8; 176], s: Site, c: Colour, d: Colour, z: Block) -> Block
-    requires { ⌜ IsSBox (now t) ⌝ }
+// E of block 0 under the operands' tokens of colours c,0 and of colours c,1: two calls of π. E of z is this ⊕ z.
+fn masks(m: &[u32; 1024], w: &[u8; 176], s: Site, c: Colour) -> Pair
+    requires { ⌜ IsTTables (now m) ⌝ }
     requires { ⌜ now w ≡ keyExpansion fixedKey ⌝ }
-    requires { ⌜ (c .0 ≤ 1) × (d .0 ≤ 1) ⌝ }
-    ensures { λ r. ⌜ r .bytes ≡ sealed dualKey (site s) (c .0) (d .0) (z .bytes) ⌝ }
+    requires { ⌜ c .0 ≤ 1 ⌝ }
+    ensures { λ r. ⌜ (r .x .bytes ≡ sealed dualKey (site s) (c .0) 0 (block 0)) × (r .y .bytes ≡ sealed dualKey (site s) (c .0) 1 (block 0)) ⌝ }
 {
     let a = token_of(s.r, s.xa, c);
-    let b = token_of(s.r, s.xb, d);
-    dual_key(t, w, a, b, tweak(s.g, c, d), z)
+    let b = token_of(s.r, s.xb, Colour(0));
+    let d = token_of(s.r, s.xb, Colour(1));
+    dual_pair(
+        m,
+        w,
+        a,
+        b,
+        tweak(s.g, c, Colour(0)),
+        d,
+        tweak(s.g, c, Colour(1)),
+    )
 }
 
-// Row 2c+d: the gate's token for its value, sealed. x is the gate's zero token.
-fn row(t: &[u8; 256], w: &[u8; 176], s: Site, x: Block, c: Colour, d: Colour) -> Block
-    requires { ⌜ IsSBox (now t) ⌝ }
-    requires { ⌜ now w ≡ keyExpansion fixedKey ⌝ }
+// Row 2c+d: the gate's token for its value, sealed by the mask of colours c and d. x is the gate's zero token.
+fn row(s: Site, x: Block, c: Colour, d: Colour, mask: Block) -> Block
     requires { ⌜ (c .0 ≤ 1) × (d .0 ≤ 1) ⌝ }
+    requires { ⌜ mask .bytes ≡ sealed dualKey (site s) (c .0) (d .0) (block 0) ⌝ }
     ensures { λ r. ⌜ r .bytes ≡ rowAt dualKey (site s) (x .bytes) (c .0) (d .0) ⌝ }
 {
     let v = value_at(s, c, d);
-    seal(t, w, s, c, d, x.xor(times(s.r, v.0)))
+    mask.xor(x.xor(times(s.r, v.0)))
 }
 
 // Scheme 1: the zero token is AES under the seed of block g, and there are four rows, of one call of π each.
-pub fn garble_gax(t: &[u8; 256], w: &[u8; 176], s: Site) -> GarbledGate
-    requires { ⌜ IsSBox (now t) ⌝ }
+pub fn garble_gax(m: &[u32; 1024], w: &[u8; 176], s: Site) -> GarbledGate
+    requires { ⌜ IsTTables (now m) ⌝ }
     requires { ⌜ now w ≡ keyExpansion fixedKey ⌝ }
     ensures { λ r. ⌜ GarbledIs (gax dualKey) (site s) r ⌝ }
 {
     let zero = s.fresh;
-    let row0 = row(t, w, s, zero, Colour(0), Colour(0));
-    let row1 = row(t, w, s, zero, Colour(0), Colour(1));
-    let row2 = row(t, w, s, zero, Colour(1), Colour(0));
-    let row3 = row(t, w, s, zero, Colour(1), Colour(1));
+    let p = masks(m, w, s, Colour(0));
+    let q = masks(m, w, s, Colour(1));
+    let row0 = row(s, zero, Colour(0), Colour(0), p.x);
+    let row1 = row(s, zero, Colour(0), Colour(1), p.y);
+    let row2 = row(s, zero, Colour(1), Colour(0), q.x);
+    let row3 = row(s, zero, Colour(1), Colour(1), q.y);
     GarbledGate {
         zero,
         row0,
@@ -93,28 +106,27 @@ pub fn garble_gax(t: &[u8; 256], w: &[u8; 176], s: Site) -> GarbledGate
     }
 }
 
-// Scheme 2's zero token: the gate's token for the value at colours 0,0 is E(A,B,4g,block 0).
-fn reduced_zero(t: &[u8; 256], w: &[u8; 176], s: Site) -> Block
-    requires { ⌜ IsSBox (now t) ⌝ }
-    requires { ⌜ now w ≡ keyExpansion fixedKey ⌝ }
+// Scheme 2's zero token: the gate's token for the value at colours 0,0 is E(A,B,4g,block 0), the mask.
+fn reduced_zero(s: Site, mask: Block) -> Block
+    requires { ⌜ mask .bytes ≡ sealed dualKey (site s) 0 0 (block 0) ⌝ }
     ensures { λ r. ⌜ r .bytes ≡ reducedZero dualKey (site s) ⌝ }
 {
-    let c = Colour(0);
-    let d = Colour(0);
-    let v = value_at(s, c, d);
-    seal(t, w, s, c, d, Block::of_number(0)).xor(times(s.r, v.0))
+    let v = value_at(s, Colour(0), Colour(0));
+    mask.xor(times(s.r, v.0))
 }
 
 // Scheme 2: row 0, of colours 0,0, gives the zero token and is not stored; rows 1 to 3 are. Four calls of π.
-pub fn garble_gaxr(t: &[u8; 256], w: &[u8; 176], s: Site) -> GarbledGate
-    requires { ⌜ IsSBox (now t) ⌝ }
+pub fn garble_gaxr(m: &[u32; 1024], w: &[u8; 176], s: Site) -> GarbledGate
+    requires { ⌜ IsTTables (now m) ⌝ }
     requires { ⌜ now w ≡ keyExpansion fixedKey ⌝ }
     ensures { λ r. ⌜ GarbledIs (gaxr dualKey) (site s) r ⌝ }
 {
-    let zero = reduced_zero(t, w, s);
-    let row0 = row(t, w, s, zero, Colour(0), Colour(1));
-    let row1 = row(t, w, s, zero, Colour(1), Colour(0));
-    let row2 = row(t, w, s, zero, Colour(1), Colour(1));
+    let p = masks(m, w, s, Colour(0));
+    let q = masks(m, w, s, Colour(1));
+    let zero = reduced_zero(s, p.x);
+    let row0 = row(s, zero, Colour(0), Colour(1), p.y);
+    let row1 = row(s, zero, Colour(1), Colour(0), q.x);
+    let row2 = row(s, zero, Colour(1), Colour(1), q.y);
     GarbledGate {
         zero,
         row0,
@@ -134,10 +146,10 @@ pub fn row_index(a: Block, b: Block) -> usize
 }
 
 // The gate's token, from a row and the tokens held on its operands: one call of π.
-pub fn open_row(t: &[u8; 256], w: &[u8; 176], g: Wire, a: Block, b: Block, row: Block) -> Block
-    requires { ⌜ IsSBox (now t) ⌝ }
+pub fn open_row(m: &[u32; 1024], w: &[u8; 176], g: Wire, a: Block, b: Block, row: Block) -> Block
+    requires { ⌜ IsTTables (now m) ⌝ }
     requires { ⌜ now w ≡ keyExpansion fixedKey ⌝ }
     ensures { λ r. ⌜ r .bytes ≡ dualKey (a .bytes) (b .bytes) (4 * g .0 + 2 * colour (a .bytes) + colour (b .bytes)) (row .bytes) ⌝ }
 {
-    dual_key(t, w, a, b, tweak(g, a.colour(), b.colour()), row)
+    dual_key(m, w, a, b, tweak(g, a.colour(), b.colour()), row)
 }

@@ -1,14 +1,15 @@
 // Half-gates (01, Scheme 3). A charged gate is two half-gates: the generator's, whose row is G, and the evaluator's, whose row is E.
 use crate::GarbledGate;
 use crate::Site;
-use crate::cipher::hash;
+use crate::cipher::hash_pair;
 use crate::cipher::times;
 use block::Block;
 use model::Truth;
 use model::Wire;
 ghost use mathlib.Core.Path.{_≡_};
 ghost use Prim.Native.Nat.{_+_, _*_, _-_, _≤_};
-ghost use Rattle.model.specs.Aes.{IsSBox, keyExpansion, fixedKey, _⊕_, times};
+ghost use Rattle.aes.specs.Tables.{IsTTables};
+ghost use Rattle.model.specs.Aes.{keyExpansion, fixedKey, _⊕_, times};
 ghost use Rattle.model.specs.Circuit.{charged, kindOf};
 ghost use Rattle.model.specs.Tokens.{colour};
 ghost use Rattle.model.specs.HalfGates.{hash, joined, half};
@@ -29,14 +30,14 @@ fn offset_unless(x: Block, r: Block, u: Truth) -> Block
 }
 
 // The row H(x,i) ⊕ H(x⊕R,i) ⊕ z: two calls of π.
-fn half_gate(t: &[u8; 256], w: &[u8; 176], r: Block, x: Block, i: u64, z: Block) -> HalfGate
-    requires { ⌜ IsSBox (now t) ⌝ }
+fn half_gate(m: &[u32; 1024], w: &[u8; 176], r: Block, x: Block, i: u64, z: Block) -> HalfGate
+    requires { ⌜ IsTTables (now m) ⌝ }
     requires { ⌜ now w ≡ keyExpansion fixedKey ⌝ }
     ensures { λ h. ⌜ HalfIs (r .bytes) (x .bytes) i (z .bytes) h ⌝ }
 {
-    let hashed = hash(t, w, x, i);
-    let other = hash(t, w, x.xor(r), i);
-    let row = hashed.xor(other.xor(z));
+    let h = hash_pair(m, w, x, i, x.xor(r), i);
+    let hashed = h.x;
+    let row = hashed.xor(h.y.xor(z));
     HalfGate { hashed, row }
 }
 
@@ -51,14 +52,14 @@ fn join(ha: Block, hb: Block, g: Block, e: Block, a: Block, b: Block) -> Block
 
 // Scheme 3: the rows G and E, by four calls of π. The pair u, v of truth values has a value of its own, own.
 pub fn garble_half(
-    t: &[u8; 256],
+    m: &[u32; 1024],
     w: &[u8; 176],
     s: Site,
     u: Truth,
     v: Truth,
     own: Truth,
 ) -> GarbledGate
-    requires { ⌜ IsSBox (now t) ⌝ }
+    requires { ⌜ IsTTables (now m) ⌝ }
     requires { ⌜ now w ≡ keyExpansion fixedKey ⌝ }
     requires { ⌜ kindOf (s .code) ≡ charged (u .0) (v .0) (own .0) ⌝ }
     ensures { λ r. ⌜ GarbledIs (half hash) (site s) r ⌝ }
@@ -69,8 +70,8 @@ pub fn garble_half(
     let b = offset_unless(s.xb, r, v);
     let j = 2 * (s.g.0 as u64);
     let k = j + 1;
-    let generator = half_gate(t, w, r, a, j, times(r, b.colour().0));
-    let evaluator = half_gate(t, w, r, b, k, a);
+    let generator = half_gate(m, w, r, a, j, times(r, b.colour().0));
+    let evaluator = half_gate(m, w, r, b, k, a);
     let row_g = generator.row;
     let row_e = evaluator.row;
     let x = join(generator.hashed, evaluator.hashed, row_g, row_e, a, b);
@@ -87,7 +88,7 @@ pub fn garble_half(
 
 // The gate's token, from the rows G and E and the tokens held on its operands: two calls of π.
 pub fn open_half(
-    t: &[u8; 256],
+    m: &[u32; 1024],
     w: &[u8; 176],
     g: Wire,
     rg: Block,
@@ -95,13 +96,12 @@ pub fn open_half(
     a: Block,
     b: Block,
 ) -> Block
-    requires { ⌜ IsSBox (now t) ⌝ }
+    requires { ⌜ IsTTables (now m) ⌝ }
     requires { ⌜ now w ≡ keyExpansion fixedKey ⌝ }
     ensures { λ r. ⌜ r .bytes ≡ joined hash (g .0) (rg .bytes) (re .bytes) (a .bytes) (b .bytes) ⌝ }
 {
     let j = 2 * (g.0 as u64);
     let k = j + 1;
-    let ha = hash(t, w, a, j);
-    let hb = hash(t, w, b, k);
-    join(ha, hb, rg, re, a, b)
+    let h = hash_pair(m, w, a, j, b, k);
+    join(h.x, h.y, rg, re, a, b)
 }

@@ -1,5 +1,5 @@
 // One gate, garbled and opened, by each of the three schemes (01, Tokens and Scheme 1 to Scheme 3).
-// Whatever enciphers is lent the S-box t and the schedule w of π's fixed key.
+// Whatever enciphers is lent the tables m of AES and the schedule w of π's fixed key.
 mod cipher; // the dual-key cipher, the hash, and a bit times a block
 mod free; // free gates
 mod gax; // schemes 1 and 2
@@ -7,7 +7,7 @@ mod half; // scheme 3
 
 use block::Block;
 pub use cipher::dual_key;
-pub use cipher::hash;
+pub use cipher::hash_pair;
 pub use cipher::times;
 pub use free::free_token;
 pub use free::free_zero;
@@ -21,7 +21,8 @@ use model::Truth;
 use model::Wire;
 ghost use mathlib.Core.Path.{_≡_};
 ghost use Prim.Native.Nat.{_≤_};
-ghost use Rattle.model.specs.Aes.{IsSBox, keyExpansion, fixedKey};
+ghost use Rattle.aes.specs.Tables.{IsTTables};
+ghost use Rattle.model.specs.Aes.{keyExpansion, fixedKey};
 ghost use Rattle.model.specs.Circuit.{charged, kindOf};
 ghost use Rattle.model.specs.Garbling.{schemeOf};
 ghost use Rattle.scheme.specs.Garbled.{site, GarbledIs};
@@ -47,7 +48,7 @@ pub struct GarbledGate {
 
 // A charged gate, garbled by the scheme of a scheme byte. The pair u, v of truth values has a value of its own, own.
 pub fn garble_gate(
-    t: &[u8; 256],
+    m: &[u32; 1024],
     w: &[u8; 176],
     scheme: u8,
     s: Site,
@@ -55,15 +56,15 @@ pub fn garble_gate(
     v: Truth,
     own: Truth,
 ) -> GarbledGate
-    requires { ⌜ IsSBox (now t) ⌝ }
+    requires { ⌜ IsTTables (now m) ⌝ }
     requires { ⌜ now w ≡ keyExpansion fixedKey ⌝ }
     requires { ⌜ (1 ≤ scheme) × (scheme ≤ 3) ⌝ }
     requires { ⌜ kindOf (s .code) ≡ charged (u .0) (v .0) (own .0) ⌝ }
     ensures { λ r. ⌜ GarbledIs (schemeOf scheme) (site s) r ⌝ }
 {
     match scheme {
-        1 => garble_gax(t, w, s),
-        2 => garble_gaxr(t, w, s),
-        _ => garble_half(t, w, s, u, v, own),
+        1 => garble_gax(m, w, s),
+        2 => garble_gaxr(m, w, s),
+        _ => garble_half(m, w, s, u, v, own),
     }
 }

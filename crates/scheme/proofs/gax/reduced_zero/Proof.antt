@@ -9,6 +9,4 @@ unfolding site
 returns c = search reduced-is
 
 pub reduced-zero-spec : {M : Type 1} → statement M
-reduced-zero-spec =
-    tie.close
-    (tie.spec (λ c κs. search needs) (λ c κs. search needs) (λ c κs. search needs) (λ c κs. search needs) (λ c κs. search needs) returns)
+reduced-zero-spec = tie.close (tie.spec (λ c κs. search needs) (λ c κs. search needs) (λ c κs. search needs) returns)

@@ -6,6 +6,4 @@ returns : tie.Need-returns
 returns c = record { is-hash = search needs; is-row = cc }
 
 pub half-gate-spec : {M : Type 1} → statement M
-half-gate-spec =
-    tie.close
-    (tie.spec (λ c κs. search needs) (λ c κs. search needs) (λ c κs. search needs) (λ c κs. search needs) (λ c κs. search needs) returns)
+half-gate-spec = tie.close (tie.spec (λ c κs. search needs) (λ c κs. search needs) (λ c κs. search needs) (λ c κs. search needs) returns)

@@ -1,0 +1,7 @@
+use borrow.Author.Needs.{needs}
+use Rattle.scheme.proofs.PieceLaws.{mask-is}
+use Rattle.scheme.proofs.cipher.dual_pair.Statement.{statement}
+use Rattle.scheme.proofs.cipher.dual_pair.Tie as tie
+
+pub dual-pair-spec : {M : Type 1} → statement M
+dual-pair-spec = tie.close (tie.spec (λ c κs. search needs) (λ c κs. search needs) (λ c κs. search needs) (λ c. (search mask-is, search mask-is)))
