@@ -1,0 +1,165 @@
+/*
+ * Weighhare: garbled circuits. Link with libweighhare.a.
+ *
+ * A circuit computes bits from bits. The garbler gives each wire two 16-byte tokens, one for 0 and one for 1, and writes
+ * the material: what an evaluator who holds one token for each input needs to find the one token of each other wire.
+ * docs/FORMATS.md has the bytes of a circuit and of the material, the gate codes and the schemes.
+ *
+ * Every function here
+ *   - returns 0, or the number of the refusal (WEIGHHARE_.. below): the first condition that holds, in a fixed order;
+ *   - sets all four words of `answer`. If it refuses, answer[0] is the refusal's place; else the words are its results.
+ *     Words that are not used are 0;
+ *   - leaves every output buffer as it was if it refuses, and else writes only the bytes named, at the front;
+ *   - takes any bytes and any lengths, and keeps nothing: no memory, no state, no pointer.
+ *
+ * What the caller must see to: each pointer is to as many bytes as its length says, readable, and writable for an output
+ * buffer; a pointer is not null, even where its length is 0; `answer` is to four words, aligned as uint64_t is; an output
+ * buffer and `answer` overlap nothing else that is handed in. Nothing checks this, and nothing holds where it is broken.
+ *
+ * Below n, m, q and p are the circuit's inputs, outputs, gates and charged gates. Wires are numbered from 1: the inputs 1
+ * to n, then the gates n+1 to n+q, of which the last m are the outputs. Lists of tokens and of values are in that order.
+ */
+#ifndef WEIGHHARE_H
+#define WEIGHHARE_H
+
+#include <stddef.h>
+#include <stdint.h>
+
+#ifdef __cplusplus
+extern "C" {
+#endif
+
+/* What the functions return: 0, or why they refused. In brackets: the refusal's place, which answer[0] gives. */
+enum {
+    WEIGHHARE_DONE = 0,             /* nothing refused */
+    WEIGHHARE_CIRCUIT_SHORT = 1,    /* the circuit has under 8 bytes [its length] */
+    WEIGHHARE_CIRCUIT_MARK = 2,     /* the circuit does not begin with 43 48 [0] */
+    WEIGHHARE_LIMITS = 3,           /* n, m or q breaks a limit [2] */
+    WEIGHHARE_CIRCUIT_LENGTH = 4,   /* the circuit's length is not 8+7q [its length] */
+    WEIGHHARE_GATE_MARK = 5,        /* a gate does not begin with 43 47 [its wire number] */
+    WEIGHHARE_OPERANDS = 6,         /* a gate's operands a and b are not 1 <= a < b < its wire number [its wire number] */
+    WEIGHHARE_CODE = 7,             /* a gate's code is neither charged nor free [its wire number] */
+    WEIGHHARE_SEED_LENGTH = 8,      /* the seed has not 16 bytes [its length] */
+    WEIGHHARE_VALUES_LENGTH = 9,    /* the value list has not n bytes [its length] */
+    WEIGHHARE_VALUE = 10,           /* a value is neither 0 nor 1 [index of the first, from 0]; in pick, the bit [0] */
+    WEIGHHARE_TOKENS_LENGTH = 11,   /* a token list has the wrong length [length of the first that is wrong]; in pick, the
+                                       lists' lengths differ or are no multiple of 16 [the zero list's length] */
+    WEIGHHARE_MATERIAL_SHORT = 12,  /* the material has under 9 bytes [its length] */
+    WEIGHHARE_MATERIAL_MARK = 13,   /* the material does not begin with 47 48 [0] */
+    WEIGHHARE_SCHEME = 14,          /* the scheme, the argument or the material's, is not 1, 2 or 3 [the scheme] */
+    WEIGHHARE_MATERIAL_SIZES = 15,  /* the material's n, m or q is not the circuit's [3] */
+    WEIGHHARE_MATERIAL_LENGTH = 16, /* the material's length is not that of its scheme and circuit [its length] */
+    WEIGHHARE_ROW_RECORD = 17,      /* a row record has a wrong mark or wire number [the wire number due] */
+    WEIGHHARE_LAST_RECORD = 18,     /* the last record has a wrong mark or a byte over 1 [where it starts] */
+    WEIGHHARE_ROOM = 19,            /* an output buffer is too short [bytes needed, of the first that is] */
+    WEIGHHARE_PICK_WIRE = 20        /* pick's wire is 0 or past the lists [the wire] */
+};
+
+/* Schemes: rows for each charged gate, and so the material's length, 11 + m + p(4 + 16 rows). */
+enum {
+    WEIGHHARE_GAX = 1,       /* four rows */
+    WEIGHHARE_GAXR = 2,      /* three rows */
+    WEIGHHARE_HALF_GATES = 3 /* two rows */
+};
+
+/*
+ * Checks a circuit. Refusals 1 to 7.
+ *   circuit  the circuit's bytes
+ *   answer   n, m, q, p
+ */
+uint8_t weighhare_check(const uint8_t *circuit, size_t circuit_len, uint64_t answer[4]);
+
+/*
+ * Evaluates the plain circuit: the value that each wire carries. Refusals 1 to 7, 9, 10, 19.
+ *   circuit  the circuit's bytes
+ *   values   n bytes, each 0 or 1: the inputs' values
+ *   wires    output: n+q bytes, each 0 or 1: the value of every wire
+ *   answer   0, 0, 0, 0
+ */
+uint8_t weighhare_plain(const uint8_t *circuit, size_t circuit_len, const uint8_t *values, size_t values_len,
+                        uint8_t *wires, size_t wires_len, uint64_t answer[4]);
+
+/*
+ * Garbles a circuit. Refusals 1 to 7, 8, 14, 19.
+ *   circuit   the circuit's bytes
+ *   seed      16 bytes, secret, drawn at random and used for no other garbling
+ *   scheme    1, 2 or 3
+ *   material  output: 11 + m + p(4 + 16 rows) bytes, with 4, 3 or 2 rows in scheme 1, 2 or 3; for the evaluator
+ *   zeros     output: 16(n+q) bytes, the zero token of every wire; secret
+ *   ones      output: 16n bytes, the one token of every input; secret
+ *   answer    the material's length, the calls of the block cipher made (4p), 0, 0
+ */
+uint8_t weighhare_garble(const uint8_t *circuit, size_t circuit_len, const uint8_t *seed, size_t seed_len, uint8_t scheme,
+                         uint8_t *material, size_t material_len, uint8_t *zeros, size_t zeros_len, uint8_t *ones,
+                         size_t ones_len, uint64_t answer[4]);
+
+/*
+ * Chooses the inputs' tokens: for value 0 that of the zero list, for value 1 that of the one list.
+ * Refusals 1 to 7, 9, 10, 11, 19.
+ *   circuit  the circuit's bytes
+ *   values   n bytes, each 0 or 1
+ *   zeros    16n bytes: the inputs' zero tokens, the first 16n bytes that garble wrote
+ *   ones     16n bytes: the inputs' one tokens
+ *   tokens   output: 16n bytes, a token for each input
+ *   answer   0, 0, 0, 0
+ */
+uint8_t weighhare_encode(const uint8_t *circuit, size_t circuit_len, const uint8_t *values, size_t values_len,
+                         const uint8_t *zeros, size_t zeros_len, const uint8_t *ones, size_t ones_len, uint8_t *tokens,
+                         size_t tokens_len, uint64_t answer[4]);
+
+/*
+ * Evaluates a garbled circuit: from a token for each input, the token of every wire. Refusals 1 to 7, 11, 12 to 18, 19.
+ *   circuit   the circuit's bytes
+ *   tokens    16n bytes: a token for each input
+ *   material  the material, exactly as long as garble's answer says
+ *   wires     output: 16(n+q) bytes, the token of every wire
+ *   answer    the calls of the block cipher made (p in schemes 1 and 2, 2p in scheme 3), 0, 0, 0
+ */
+uint8_t weighhare_evaluate(const uint8_t *circuit, size_t circuit_len, const uint8_t *tokens, size_t tokens_len,
+                           const uint8_t *material, size_t material_len, uint8_t *wires, size_t wires_len,
+                           uint64_t answer[4]);
+
+/* A gate that is already read: two operands, which are wire numbers, and a code. */
+typedef struct {
+    uint16_t a, b;
+    uint8_t code;
+} weighhare_gate;
+
+/*
+ * Evaluates as weighhare_evaluate does, from the gates already read: the answer that a circuit of the bytes made from them
+ * would get. Refusals 3, 6, 7, 11, 12 to 18, 19; more than 65,535 gates are refusal 3.
+ *   n, m      the inputs and the outputs
+ *   gates     q gates, in the order of their wire numbers
+ *   tokens, material, wires, answer   as in weighhare_evaluate
+ */
+uint8_t weighhare_evaluate_gates(uint16_t n, uint16_t m, const weighhare_gate *gates, size_t q, const uint8_t *tokens,
+                                 size_t tokens_len, const uint8_t *material, size_t material_len, uint8_t *wires,
+                                 size_t wires_len, uint64_t answer[4]);
+
+/*
+ * Decodes the outputs' tokens to bits. Any tokens decode. Refusals 1 to 7, 11, 12 to 18, 19.
+ *   circuit   the circuit's bytes
+ *   tokens    16m bytes: the tokens of the outputs, the last 16m of the 16(n+q) bytes that evaluate wrote
+ *   material  the material, exactly as long as garble's answer says
+ *   bits      output: m bytes, each 0 or 1
+ *   answer    0, 0, 0, 0
+ */
+uint8_t weighhare_decode(const uint8_t *circuit, size_t circuit_len, const uint8_t *tokens, size_t tokens_len,
+                         const uint8_t *material, size_t material_len, uint8_t *bits, size_t bits_len,
+                         uint64_t answer[4]);
+
+/*
+ * Finds the token of one wire for one bit in the lists of zero and of one tokens. Refusals 10, 11, 20.
+ *   zeros, ones  lists of tokens, of one length, which is a multiple of 16
+ *   wire         from 1
+ *   bit          0 or 1
+ *   answer       which list (0: zeros, 1: ones), where in it the token starts (16(wire-1)), the token's length (16), 0
+ */
+uint8_t weighhare_pick(const uint8_t *zeros, size_t zeros_len, const uint8_t *ones, size_t ones_len, uint16_t wire,
+                       uint8_t bit, uint64_t answer[4]);
+
+#ifdef __cplusplus
+}
+#endif
+
+#endif
