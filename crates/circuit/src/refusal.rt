@@ -1,4 +1,5 @@
 // A refusal as numbers, for whoever prints it or hands it on (01, Turned down, by number).
+ghost use mathlib.Core.Path.{_≡_};
 ghost use Rattle.circuit.specs.Answers.{TurnedIs};
 use model::Refusal;
 
@@ -7,90 +8,36 @@ pub struct Turned {
     pub place: usize,
 }
 
+fn numbered(number: u8, place: usize) -> Turned
+    ensures { λ r. ⌜ (r .number ≡ number) × (r .place ≡ place) ⌝ }
+{
+    Turned { number, place }
+}
+
 // The number and the place of a refusal.
 pub fn number_and_place(f: Refusal) -> Turned
     ensures { λ r. ⌜ TurnedIs f (r .number) (r .place) ⌝ }
 {
     match f {
-        Refusal::CircuitShort(l) => Turned {
-            number: 1,
-            place: l,
-        },
-        Refusal::CircuitMark => Turned {
-            number: 2,
-            place: 0,
-        },
-        Refusal::Limits => Turned {
-            number: 3,
-            place: 2,
-        },
-        Refusal::CircuitLength(l) => Turned {
-            number: 4,
-            place: l,
-        },
-        Refusal::GateMark(w) => Turned {
-            number: 5,
-            place: w.0 as usize,
-        },
-        Refusal::Operands(w) => Turned {
-            number: 6,
-            place: w.0 as usize,
-        },
-        Refusal::Code(w) => Turned {
-            number: 7,
-            place: w.0 as usize,
-        },
-        Refusal::SeedLength(l) => Turned {
-            number: 8,
-            place: l,
-        },
-        Refusal::ValuesLength(l) => Turned {
-            number: 9,
-            place: l,
-        },
-        Refusal::Value(i) => Turned {
-            number: 10,
-            place: i,
-        },
-        Refusal::TokensLength(l) => Turned {
-            number: 11,
-            place: l,
-        },
-        Refusal::MaterialShort(l) => Turned {
-            number: 12,
-            place: l,
-        },
-        Refusal::MaterialMark => Turned {
-            number: 13,
-            place: 0,
-        },
-        Refusal::Scheme(s) => Turned {
-            number: 14,
-            place: s as usize,
-        },
-        Refusal::MaterialSizes => Turned {
-            number: 15,
-            place: 3,
-        },
-        Refusal::MaterialLength(l) => Turned {
-            number: 16,
-            place: l,
-        },
-        Refusal::RowRecord(w) => Turned {
-            number: 17,
-            place: w.0 as usize,
-        },
-        Refusal::LastRecord(at) => Turned {
-            number: 18,
-            place: at,
-        },
-        Refusal::Room(l) => Turned {
-            number: 19,
-            place: l,
-        },
-        Refusal::PickWire(w) => Turned {
-            number: 20,
-            place: w.0 as usize,
-        },
+        Refusal::CircuitShort(l) => numbered(1, l),
+        Refusal::CircuitMark => numbered(2, 0),
+        Refusal::Limits => numbered(3, 2),
+        Refusal::CircuitLength(l) => numbered(4, l),
+        Refusal::GateMark(w) => numbered(5, w.0 as usize),
+        Refusal::Operands(w) => numbered(6, w.0 as usize),
+        Refusal::Code(w) => numbered(7, w.0 as usize),
+        Refusal::SeedLength(l) => numbered(8, l),
+        Refusal::ValuesLength(l) => numbered(9, l),
+        Refusal::Value(i) => numbered(10, i),
+        Refusal::TokensLength(l) => numbered(11, l),
+        Refusal::MaterialShort(l) => numbered(12, l),
+        Refusal::MaterialMark => numbered(13, 0),
+        Refusal::Scheme(s) => numbered(14, s as usize),
+        Refusal::MaterialSizes => numbered(15, 3),
+        Refusal::MaterialLength(l) => numbered(16, l),
+        Refusal::RowRecord(w) => numbered(17, w.0 as usize),
+        Refusal::LastRecord(at) => numbered(18, at),
+        Refusal::Room(l) => numbered(19, l),
+        Refusal::PickWire(w) => numbered(20, w.0 as usize),
     }
 }
