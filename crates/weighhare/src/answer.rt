@@ -1,30 +1,41 @@
-// How an answer is set out for a caller in C: the refusal's number, and four words.
+// How an answer is set out for a caller in C: the refusal's number, which is returned, and four words.
+ghost use mathlib.Core.Path.{_≡_};
+ghost use mathlib.Core.List.{_∷_, []};
+ghost use Rattle.model.specs.Refusals.{verdictOf};
+ghost use Rattle.model.specs.Operations.{ranOf};
+ghost use Rattle.weighhare.specs.Out.{out, verdictOut};
 use circuit::refusal::number_and_place;
 use model::Ran;
 use model::Refusal;
 
-// The four words; what is returned is the number of no refusal.
+// Results, and no refusal.
 pub fn results(
     answer: &mut [u64; 4],
     first: usize,
     second: usize,
     third: usize,
     fourth: usize,
-) -> u8 {
+) -> u8
+    ensures { λ r. ⌜ out r (now (answer .exit)) ≡ out 0 (first ∷ second ∷ third ∷ fourth ∷ []) ⌝ }
+{
     *answer = [first as u64, second as u64, third as u64, fourth as u64];
     0
 }
 
-// The refusal's place in the first word; what is returned is its number.
-pub fn refused(answer: &mut [u64; 4], f: Refusal) -> u8 {
+// A refusal: its place in the first word.
+pub fn refused(answer: &mut [u64; 4], f: Refusal) -> u8
+    ensures { λ r. ⌜ out r (now (answer .exit)) ≡ verdictOut (verdictOf f) ⌝ }
+{
     let t = number_and_place(f);
-    results(answer, t.place, 0, 0, 0);
+    *answer = [t.place as u64, 0, 0, 0];
     t.number
 }
 
 // The answer of an operation that has no results but the bytes that it writes.
-pub fn ran(answer: &mut [u64; 4], r: Ran) -> u8 {
-    match r {
+pub fn ran(answer: &mut [u64; 4], done: Ran) -> u8
+    ensures { λ r. ⌜ out r (now (answer .exit)) ≡ verdictOut (ranOf done) ⌝ }
+{
+    match done {
         Ran::Refused(f) => refused(answer, f),
         Ran::Done => results(answer, 0, 0, 0, 0),
     }

@@ -1,5 +1,9 @@
 // The C interface: the operations of 01 as exported functions, declared and explained in include/weighhare.h. Each returns the
 // refusal's number, 0 if none, and sets out the rest of its answer in four words.
+ghost use mathlib.Core.Path.{_≡_};
+ghost use Rattle.model.specs.Operations.{checkAnswer, PlainIs, GarbleIs, EncodeIs, EvaluateIs, DecodeIs};
+ghost use Rattle.weighhare.specs.Out.{Handed, verdictOut, sizesOut, madeOut, callsOut};
+ghost use Rattle.weighhare.specs.Pick.{PickIs, partOut};
 use crate::answer::ran;
 use crate::answer::refused;
 use crate::answer::results;
@@ -12,7 +16,9 @@ pub mod answer;
 
 // Check: n, m, q, p.
 #[no_mangle]
-pub extern "C" fn weighhare_check(circuit: &[u8], answer: &mut [u64; 4]) -> u8 {
+pub extern "C" fn weighhare_check(circuit: &[u8], answer: &mut [u64; 4]) -> u8
+    ensures { λ r. ⌜ Handed (λ x. x ≡ checkAnswer (now (circuit .entry))) sizesOut r (now (answer .exit)) ⌝ }
+{
     match circuit::check(circuit) {
         Checked::Refused(f) => refused(answer, f),
         Checked::Accepted(z) => results(answer, z.n, z.m, z.q, z.p),
@@ -26,7 +32,9 @@ pub extern "C" fn weighhare_plain(
     values: &[u8],
     wires: &mut [u8],
     answer: &mut [u64; 4],
-) -> u8 {
+) -> u8
+    ensures { λ r. ⌜ Handed (λ x. PlainIs (now (circuit .entry)) (now (values .entry)) (now (wires .entry)) x (now (wires .exit))) verdictOut r (now (answer .exit)) ⌝ }
+{
     let r = circuit::plain(circuit, values, wires);
     ran(answer, r)
 }
@@ -41,7 +49,9 @@ pub extern "C" fn weighhare_garble(
     zeros: &mut [u8],
     ones: &mut [u8],
     answer: &mut [u64; 4],
-) -> u8 {
+) -> u8
+    ensures { λ r. ⌜ Handed (λ x. GarbleIs (now (circuit .entry)) (now (seed .entry)) scheme (now (material .entry)) (now (zeros .entry)) (now (ones .entry)) x (now (material .exit)) (now (zeros .exit)) (now (ones .exit))) madeOut r (now (answer .exit)) ⌝ }
+{
     match garble::garble(circuit, seed, scheme, material, zeros, ones) {
         Garbled::Refused(f) => refused(answer, f),
         Garbled::Done { length, calls } => results(answer, length, calls, 0, 0),
@@ -57,7 +67,9 @@ pub extern "C" fn weighhare_encode(
     ones: &[u8],
     tokens: &mut [u8],
     answer: &mut [u64; 4],
-) -> u8 {
+) -> u8
+    ensures { λ r. ⌜ Handed (λ x. EncodeIs (now (circuit .entry)) (now (values .entry)) (now (zeros .entry)) (now (ones .entry)) (now (tokens .entry)) x (now (tokens .exit))) verdictOut r (now (answer .exit)) ⌝ }
+{
     let r = garble::encode(circuit, values, zeros, ones, tokens);
     ran(answer, r)
 }
@@ -70,7 +82,9 @@ pub extern "C" fn weighhare_evaluate(
     material: &[u8],
     wires: &mut [u8],
     answer: &mut [u64; 4],
-) -> u8 {
+) -> u8
+    ensures { λ r. ⌜ Handed (λ x. EvaluateIs (now (circuit .entry)) (now (tokens .entry)) (now (material .entry)) (now (wires .entry)) x (now (wires .exit))) callsOut r (now (answer .exit)) ⌝ }
+{
     match evaluate::evaluate(circuit, tokens, material, wires) {
         Evaluated::Refused(f) => refused(answer, f),
         Evaluated::Done(calls) => results(answer, calls, 0, 0, 0),
@@ -85,7 +99,9 @@ pub extern "C" fn weighhare_decode(
     material: &[u8],
     bits: &mut [u8],
     answer: &mut [u64; 4],
-) -> u8 {
+) -> u8
+    ensures { λ r. ⌜ Handed (λ x. DecodeIs (now (circuit .entry)) (now (tokens .entry)) (now (material .entry)) (now (bits .entry)) x (now (bits .exit))) verdictOut r (now (answer .exit)) ⌝ }
+{
     let r = evaluate::decode(circuit, tokens, material, bits);
     ran(answer, r)
 }
@@ -98,7 +114,9 @@ pub extern "C" fn weighhare_pick(
     wire: u16,
     bit: u8,
     answer: &mut [u64; 4],
-) -> u8 {
+) -> u8
+    ensures { λ r. ⌜ Handed (PickIs (now (zeros .entry)) (now (ones .entry)) wire bit) partOut r (now (answer .exit)) ⌝ }
+{
     match garble::pick_check(zeros, ones, wire, bit) {
         Ran::Refused(f) => refused(answer, f),
         Ran::Done => results(answer, bit as usize, 16 * (wire as usize - 1), 16, 0),

@@ -1,0 +1,50 @@
+-- What a caller has: a law for each case of each operation's answer. Assumes nothing.
+use Prim.Native.Nat.{ℕ}
+use mathlib.Core.Path.{_≡_, sym, ap, _∙_}
+use mathlib.Core.List.{List, [], _∷_}
+use Rattle.model.specs.declared.Checked.{Checked}
+use Rattle.model.specs.declared.Evaluated.{Evaluated}
+use Rattle.model.specs.declared.Garbled.{Garbled}
+use Rattle.model.specs.declared.Ran.{Ran}
+use Rattle.model.specs.declared.Refusal.{Refusal}
+use Rattle.model.specs.declared.Sizes.{Sizes}
+use Rattle.model.specs.Refusals.{Verdict, verdictOf}
+use Rattle.model.specs.Operations.{Answer, Made, checkedOf, ranOf, garbledOf, evaluatedOf}
+use Rattle.weighhare.specs.Out.{Out, out, verdictOut, sizesOut, madeOut, callsOut, Handed}
+
+-- an operation's answer r is `of r` in the model's terms; it is the case k
+of-case : {R X : Type 0} (Is : X → Type 0) (of : R → X) (outOf : X → Out) (number : ℕ) (words : List ℕ) (r k : R)
+    → Is (of r) → r ≡ k → out number words ≡ outOf (of k) → Handed Is outOf number words
+of-case Is of outOf number words r k is e o = record { result = of r; is = is; set-out = o ∙ sym (ap (λ x. outOf (of x)) e) }
+
+module _ (number : ℕ) (words : List ℕ) where
+  module _ (Is : Answer Sizes → Type 0) (r : Checked) (is : Is (checkedOf r)) where
+    pub check-refused : (f : Refusal) → r ≡ Checked.Refused f → out number words ≡ verdictOut (verdictOf f) → Handed Is sizesOut number words
+    check-refused f = of-case Is checkedOf sizesOut number words r (Checked.Refused f) is
+
+    pub check-accepted : (z : Sizes) → r ≡ Checked.Accepted z → out number words ≡ out 0 (z .n ∷ z .m ∷ z .q ∷ z .p ∷ []) → Handed Is sizesOut number words
+    check-accepted z = of-case Is checkedOf sizesOut number words r (Checked.Accepted z) is
+
+  module _ (Is : Answer Made → Type 0) (r : Garbled) (is : Is (garbledOf r)) where
+    pub garble-refused : (f : Refusal) → r ≡ Garbled.Refused f → out number words ≡ verdictOut (verdictOf f) → Handed Is madeOut number words
+    garble-refused f = of-case Is garbledOf madeOut number words r (Garbled.Refused f) is
+
+    pub garble-done : (l k : ℕ) → r ≡ Garbled.Done l k → out number words ≡ out 0 (l ∷ k ∷ 0 ∷ 0 ∷ []) → Handed Is madeOut number words
+    garble-done l k = of-case Is garbledOf madeOut number words r (Garbled.Done l k) is
+
+  module _ (Is : Answer ℕ → Type 0) (r : Evaluated) (is : Is (evaluatedOf r)) where
+    pub evaluate-refused : (f : Refusal) → r ≡ Evaluated.Refused f → out number words ≡ verdictOut (verdictOf f) → Handed Is callsOut number words
+    evaluate-refused f = of-case Is evaluatedOf callsOut number words r (Evaluated.Refused f) is
+
+    pub evaluate-done : (k : ℕ) → r ≡ Evaluated.Done k → out number words ≡ out 0 (k ∷ 0 ∷ 0 ∷ 0 ∷ []) → Handed Is callsOut number words
+    evaluate-done k = of-case Is evaluatedOf callsOut number words r (Evaluated.Done k) is
+
+  -- plain, encode and decode: either case
+  pub ran-handed : (Is : Verdict → Type 0) (r : Ran) → Is (ranOf r) → out number words ≡ verdictOut (ranOf r) → Handed Is verdictOut number words
+  ran-handed Is r is o = record { result = ranOf r; is = is; set-out = o }
+
+pub ruleset check-cases = (check-refused, check-accepted)
+
+pub ruleset garble-cases = (garble-refused, garble-done)
+
+pub ruleset evaluate-cases = (evaluate-refused, evaluate-done)

@@ -1,0 +1,4 @@
+-- Laws of the functions.
+pub mod OutLaws
+pub mod HandedLaws
+pub mod PickLaws

@@ -1,0 +1,18 @@
+-- The answer of an operation that only writes, as it is set out. Assumes nothing.
+use Prim.Native.Nat.{ℕ}
+use mathlib.Core.Path.{_≡_, sym, ap, _∙_}
+use mathlib.Core.List.{List, [], _∷_}
+use Rattle.model.specs.declared.Ran.{Ran}
+use Rattle.model.specs.declared.Refusal.{Refusal}
+use Rattle.model.specs.Refusals.{verdictOf}
+use Rattle.model.specs.Operations.{ranOf}
+use Rattle.weighhare.specs.Out.{Out, out, verdictOut}
+
+module _ (number : ℕ) (words : List ℕ) (r : Ran) where
+  pub ran-refused : (f : Refusal) → r ≡ Ran.Refused f → out number words ≡ verdictOut (verdictOf f) → out number words ≡ verdictOut (ranOf r)
+  ran-refused f e o = o ∙ sym (ap (λ (x : Ran). verdictOut (ranOf x)) e)
+
+  pub ran-done : r ≡ Ran.Done → out number words ≡ out 0 (0 ∷ 0 ∷ 0 ∷ 0 ∷ []) → out number words ≡ verdictOut (ranOf r)
+  ran-done e o = o ∙ sym (ap (λ (x : Ran). verdictOut (ranOf x)) e)
+
+pub ruleset ran-cases = (ran-refused, ran-done)
