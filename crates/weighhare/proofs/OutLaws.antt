@@ -1,4 +1,4 @@
--- The answer of an operation that only writes, as it is set out. Assumes nothing.
+-- A refusal, and the answer of an operation that only writes, as they are set out. Assumes nothing.
 use Prim.Native.Nat.{ℕ}
 use mathlib.Core.Path.{_≡_, sym, ap, _∙_}
 use mathlib.Core.List.{List, [], _∷_}
@@ -6,7 +6,11 @@ use Rattle.model.specs.declared.Ran.{Ran}
 use Rattle.model.specs.declared.Refusal.{Refusal}
 use Rattle.model.specs.Refusals.{verdictOf}
 use Rattle.model.specs.Operations.{ranOf}
+use Rattle.circuit.specs.Answers.{TurnedIs}
 use Rattle.weighhare.specs.Out.{Out, out, verdictOut}
+
+pub turned-out : (f : Refusal) (number place : ℕ) → TurnedIs f number place → out number (place ∷ 0 ∷ 0 ∷ 0 ∷ []) ≡ verdictOut (verdictOf f)
+turned-out f number place is = simp (is .is-number, is .is-place)
 
 module _ (number : ℕ) (words : List ℕ) (r : Ran) where
   pub ran-refused : (f : Refusal) → r ≡ Ran.Refused f → out number words ≡ verdictOut (verdictOf f) → out number words ≡ verdictOut (ranOf r)

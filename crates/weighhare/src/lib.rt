@@ -35,8 +35,8 @@ pub extern "C" fn weighhare_plain(
 ) -> u8
     ensures { λ r. ⌜ Handed (λ x. PlainIs (now (circuit .entry)) (now (values .entry)) (now (wires .entry)) x (now (wires .exit))) verdictOut r (now (answer .exit)) ⌝ }
 {
-    let r = circuit::plain(circuit, values, wires);
-    ran(answer, r)
+    let done = circuit::plain(circuit, values, wires);
+    ran(answer, done)
 }
 
 // Garble: material, zero tokens, one tokens; the material's length and the calls of π.
@@ -70,8 +70,8 @@ pub extern "C" fn weighhare_encode(
 ) -> u8
     ensures { λ r. ⌜ Handed (λ x. EncodeIs (now (circuit .entry)) (now (values .entry)) (now (zeros .entry)) (now (ones .entry)) (now (tokens .entry)) x (now (tokens .exit))) verdictOut r (now (answer .exit)) ⌝ }
 {
-    let r = garble::encode(circuit, values, zeros, ones, tokens);
-    ran(answer, r)
+    let done = garble::encode(circuit, values, zeros, ones, tokens);
+    ran(answer, done)
 }
 
 // Evaluate: the tokens of all wires; the calls of π.
@@ -102,8 +102,8 @@ pub extern "C" fn weighhare_decode(
 ) -> u8
     ensures { λ r. ⌜ Handed (λ x. DecodeIs (now (circuit .entry)) (now (tokens .entry)) (now (material .entry)) (now (bits .entry)) x (now (bits .exit))) verdictOut r (now (answer .exit)) ⌝ }
 {
-    let r = evaluate::decode(circuit, tokens, material, bits);
-    ran(answer, r)
+    let done = evaluate::decode(circuit, tokens, material, bits);
+    ran(answer, done)
 }
 
 // Pick: which list, 0 for the zero tokens and 1 for the one tokens; where in it the wire's token starts; its length, 16.
