@@ -5,11 +5,10 @@ use mathlib.Core.List.{List, [], _∷_}
 use Rattle.model.specs.declared.Checked.{Checked}
 use Rattle.model.specs.declared.Evaluated.{Evaluated}
 use Rattle.model.specs.declared.Garbled.{Garbled}
-use Rattle.model.specs.declared.Ran.{Ran}
 use Rattle.model.specs.declared.Refusal.{Refusal}
 use Rattle.model.specs.declared.Sizes.{Sizes}
 use Rattle.model.specs.Refusals.{Verdict, verdictOf}
-use Rattle.model.specs.Operations.{Answer, Made, checkedOf, ranOf, garbledOf, evaluatedOf}
+use Rattle.model.specs.Operations.{Answer, Made, checkedOf, garbledOf, evaluatedOf}
 use Rattle.weighhare.specs.Out.{Out, out, verdictOut, sizesOut, madeOut, callsOut, Handed}
 
 -- an operation's answer r is `of r` in the model's terms; it is the case k
@@ -40,11 +39,5 @@ module _ (number : ℕ) (words : List ℕ) where
     evaluate-done k = of-case Is evaluatedOf callsOut number words r (Evaluated.Done k) is
 
   -- plain, encode and decode: either case
-  pub ran-handed : (Is : Verdict → Type 0) (r : Ran) → Is (ranOf r) → out number words ≡ verdictOut (ranOf r) → Handed Is verdictOut number words
-  ran-handed Is r is o = record { result = ranOf r; is = is; set-out = o }
-
-pub ruleset check-cases = (check-refused, check-accepted)
-
-pub ruleset garble-cases = (garble-refused, garble-done)
-
-pub ruleset evaluate-cases = (evaluate-refused, evaluate-done)
+  pub ran-handed : (Is : Verdict → Type 0) (x : Verdict) → Is x → out number words ≡ verdictOut x → Handed Is verdictOut number words
+  ran-handed Is x is o = record { result = x; is = is; set-out = o }

@@ -7,7 +7,7 @@ use Rattle.model.specs.declared.Refusal.{Refusal}
 use Rattle.model.specs.Refusals.{verdictOf}
 use Rattle.model.specs.Operations.{ranOf}
 use Rattle.circuit.specs.Answers.{TurnedIs}
-use Rattle.weighhare.specs.Out.{Out, out, verdictOut}
+use Rattle.weighhare.specs.Out.{out, verdictOut}
 
 pub turned-out : (f : Refusal) (number place : ℕ) → TurnedIs f number place → out number (place ∷ 0 ∷ 0 ∷ 0 ∷ []) ≡ verdictOut (verdictOf f)
 turned-out f number place is = simp (is .is-number, is .is-place)

@@ -1,13 +1,13 @@
 -- Pick: what a caller has, refused or not. Assumes nothing.
 use Prim.Native.Nat.{ℕ, _*_, _-_}
-use mathlib.Core.Path.{_≡_, sym, ap, _∙_, refl}
+use mathlib.Core.Path.{_≡_, sym}
 use mathlib.Core.List.{List, [], _∷_}
 use Rattle.model.specs.declared.Ran.{Ran}
 use Rattle.model.specs.declared.Refusal.{Refusal}
 use Rattle.model.specs.Evaluation.{tokenAt}
-use Rattle.model.specs.Refusals.{Verdict, fine, refused, verdictOf, numberOf, placeOf, pickVerdict}
-use Rattle.model.specs.Operations.{Answer, no, yes, answer, ranOf, pickPart}
-use Rattle.weighhare.specs.Out.{Out, out, verdictOut, Handed}
+use Rattle.model.specs.Refusals.{fine, verdictOf, pickVerdict}
+use Rattle.model.specs.Operations.{no, yes, ranOf, pickPart}
+use Rattle.weighhare.specs.Out.{out, verdictOut, Handed}
 use Rattle.weighhare.specs.Pick.{part, PickIs, partOut}
 
 -- r is the answer of pick's check
@@ -23,5 +23,3 @@ module _ (z o : List ℕ) (w b : ℕ) (r : Ran) (is-r : ranOf r ≡ pickVerdict 
   pick-done e s =
       let v : pickVerdict z o w b ≡ fine = sym (rw e at is-r) in
       record { result = yes (part b (16 * (w - 1)) 16); is = record { answered = simp v; picked = simp v }; set-out = s }
-
-pub ruleset pick-cases = (pick-refused, pick-done)
