@@ -1,0 +1,51 @@
+/* An AND gate garbled, evaluated and decoded, for each pair of input values; then a refusal. C11, and C++17 too. */
+#include "weighhare.h"
+
+#include <stdio.h>
+
+/* 2 inputs, 1 output, 1 gate: wire 3 is wire 1 AND wire 2. */
+static const uint8_t and_gate[15] = {0x43, 0x48, 0, 2, 0, 1, 0, 1, 0x43, 0x47, 0, 1, 0, 2, 8};
+
+/* Says where an operation refused, and gives whether it did. */
+static int refused(const char *operation, uint8_t number, const uint64_t answer[4]) {
+    if (number != WEIGHHARE_DONE) {
+        printf("%s: refusal %u, place %llu\n", operation, (unsigned)number, (unsigned long long)answer[0]);
+    }
+    return number != WEIGHHARE_DONE;
+}
+
+static int run(uint8_t scheme, uint8_t u, uint8_t v) {
+    /* A real seed comes from the system's random numbers, and is used once. */
+    const uint8_t seed[16] = {1, 2, 3, 4, 5, 6, 7, 8, 9, 10, 11, 12, 13, 14, 15, 16};
+    const uint8_t values[2] = {u, v};
+    uint8_t material[80], zeros[3 * 16], ones[2 * 16], tokens[2 * 16], wires[3 * 16], bit[1];
+    uint64_t answer[4];
+    size_t length;
+
+    /* The garbler's side. It sends the material, and a token for each input. */
+    if (refused("garble", weighhare_garble(and_gate, sizeof and_gate, seed, sizeof seed, scheme, material, sizeof material,
+                                           zeros, sizeof zeros, ones, sizeof ones, answer), answer)) return 1;
+    length = (size_t)answer[0];
+    if (refused("encode", weighhare_encode(and_gate, sizeof and_gate, values, sizeof values, zeros, 2 * 16, ones, sizeof ones,
+                                           tokens, sizeof tokens, answer), answer)) return 1;
+
+    /* The evaluator's side. The last wire is the output. */
+    if (refused("evaluate", weighhare_evaluate(and_gate, sizeof and_gate, tokens, sizeof tokens, material, length, wires,
+                                               sizeof wires, answer), answer)) return 1;
+    if (refused("decode", weighhare_decode(and_gate, sizeof and_gate, wires + 2 * 16, 16, material, length, bit, sizeof bit,
+                                           answer), answer)) return 1;
+    printf("scheme %u: %u AND %u is %u, in %u bytes of material\n", scheme, u, v, bit[0], (unsigned)length);
+    return 0;
+}
+
+int main(void) {
+    uint64_t answer[4];
+    uint8_t scheme, pair;
+    for (scheme = WEIGHHARE_GAX; scheme <= WEIGHHARE_HALF_GATES; scheme++) {
+        for (pair = 0; pair < 4; pair++) {
+            if (run(scheme, (uint8_t)(pair >> 1), (uint8_t)(pair & 1))) return 1;
+        }
+    }
+    refused("check of 7 bytes", weighhare_check(and_gate, 7, answer), answer);
+    return 0;
+}
