@@ -1,0 +1,263 @@
+//! Garbled circuits, proved: safe functions on slices over the static library `libweighhare.a`.
+//!
+//! A circuit computes bits from bits. The garbler gives each wire two 16-byte tokens, one for 0 and one for 1, and writes
+//! the material; an evaluator who holds one token for each input finds the one token of every other wire, and decodes the
+//! outputs. The library's functions are proved to do this as defined, for every argument; this crate only hands slices on.
+//!
+//! An operation answers with its results, or with a [`Refusal`], which leaves every buffer as it was. Output buffers may be
+//! longer than what is written; bytes past that are untouched. Below n, m, q and p are the circuit's inputs, outputs, gates
+//! and charged gates ([`Sizes`]). Wires are numbered from 1: the inputs 1 to n, then the gates n+1 to n+q, of which the last
+//! m are the outputs; lists of tokens and of values are in that order. `docs/FORMATS.md` of the repository has the bytes of
+//! a circuit and of the material.
+//!
+//! # Example
+//!
+//! An AND gate, garbled by half-gates (scheme 3), evaluated on 1 and 1, and decoded.
+//!
+//! ```
+//! // 2 inputs, 1 output, 1 gate: wire 3 is wire 1 AND wire 2.
+//! let circuit = [0x43, 0x48, 0, 2, 0, 1, 0, 1, 0x43, 0x47, 0, 1, 0, 2, 8];
+//! let sizes = weighhare::check(&circuit)?;
+//! let wires = sizes.n + sizes.q;
+//!
+//! // The garbler's side. A real seed is drawn at random and used once.
+//! let seed = [7; 16];
+//! let mut material = vec![0; 11 + sizes.m + sizes.p * (4 + 16 * 2)];
+//! let mut zeros = vec![0; 16 * wires];
+//! let mut ones = vec![0; 16 * sizes.n];
+//! let garbled = weighhare::garble(&circuit, &seed, 3, &mut material, &mut zeros, &mut ones)?;
+//! assert_eq!(garbled.length, material.len());
+//! let mut inputs = vec![0; 16 * sizes.n];
+//! weighhare::encode(&circuit, &[1, 1], &zeros[..16 * sizes.n], &ones, &mut inputs)?;
+//!
+//! // The evaluator's side: it has the circuit, the material and a token for each input.
+//! let mut tokens = vec![0; 16 * wires];
+//! weighhare::evaluate(&circuit, &inputs, &material, &mut tokens)?;
+//! let mut bits = vec![0; sizes.m];
+//! weighhare::decode(&circuit, &tokens[16 * (wires - sizes.m)..], &material, &mut bits)?;
+//! assert_eq!(bits, [1]);
+//! # Ok::<(), weighhare::Refusal>(())
+//! ```
+
+#![warn(missing_docs)]
+
+#[cfg(not(all(target_arch = "x86_64", target_os = "linux")))]
+compile_error!("libweighhare.a is for x86-64 Linux");
+
+mod library;
+mod refusal;
+
+pub use refusal::Refusal;
+
+/// A circuit's sizes.
+#[derive(Clone, Copy, Debug, PartialEq, Eq)]
+#[must_use]
+pub struct Sizes {
+    /// Inputs.
+    pub n: usize,
+    /// Outputs.
+    pub m: usize,
+    /// Gates.
+    pub q: usize,
+    /// Charged gates: those that have rows in the material.
+    pub p: usize,
+}
+
+/// What [`garble`] answers.
+#[derive(Clone, Copy, Debug, PartialEq, Eq)]
+#[must_use]
+pub struct Garbled {
+    /// The material's length: this many bytes at the front of the buffer, and no more, are what an evaluator needs.
+    pub length: usize,
+    /// The calls of the block cipher made, 4p.
+    pub calls: usize,
+}
+
+/// Checks a circuit. Refusals 1 to 7.
+///
+/// ```
+/// use weighhare::Refusal;
+///
+/// let refusal = weighhare::check(&[0x43, 0x48, 0, 2, 0, 1, 0]).unwrap_err();
+/// assert_eq!(refusal, Refusal::CircuitShort { length: 7 });
+/// assert_eq!(refusal.to_string(), "the circuit has 7 bytes, a header needs 8");
+/// ```
+pub fn check(circuit: &[u8]) -> Result<Sizes, Refusal> {
+    let mut answer = [0; 4];
+    // SAFETY: the pointer and the length are a slice's; `answer` is four words, borrowed alone.
+    let number = unsafe { library::weighhare_check(circuit.as_ptr(), circuit.len(), &mut answer) };
+    let [n, m, q, p] = results(number, answer)?;
+    Ok(Sizes { n, m, q, p })
+}
+
+/// Evaluates the plain circuit. Refusals 1 to 7, 9, 10, 19.
+///
+/// `values` has n bytes, each 0 or 1. Writes n+q bytes to `wires`: the value of every wire.
+pub fn plain(circuit: &[u8], values: &[u8], wires: &mut [u8]) -> Result<(), Refusal> {
+    let mut answer = [0; 4];
+    // SAFETY: pointers and lengths are slices'; `wires` and `answer` are borrowed alone.
+    let number = unsafe {
+        library::weighhare_plain(
+            circuit.as_ptr(),
+            circuit.len(),
+            values.as_ptr(),
+            values.len(),
+            wires.as_mut_ptr(),
+            wires.len(),
+            &mut answer,
+        )
+    };
+    results(number, answer).map(|_| ())
+}
+
+/// Garbles a circuit by a scheme: 1 is GaX, 2 GaXR, 3 half-gates. Refusals 1 to 7, 8, 14, 19.
+///
+/// `seed` has 16 bytes; it is secret, drawn at random, and used for no other garbling. Writes 11+m+p(4+16r) bytes to
+/// `material`, where r is 4, 3 or 2 in scheme 1, 2 or 3; 16(n+q) bytes to `zeros`, the zero token of every wire; and 16n
+/// bytes to `ones`, the one token of every input.
+pub fn garble(
+    circuit: &[u8],
+    seed: &[u8],
+    scheme: u8,
+    material: &mut [u8],
+    zeros: &mut [u8],
+    ones: &mut [u8],
+) -> Result<Garbled, Refusal> {
+    let mut answer = [0; 4];
+    // SAFETY: pointers and lengths are slices'; `material`, `zeros`, `ones` and `answer` are borrowed alone.
+    let number = unsafe {
+        library::weighhare_garble(
+            circuit.as_ptr(),
+            circuit.len(),
+            seed.as_ptr(),
+            seed.len(),
+            scheme,
+            material.as_mut_ptr(),
+            material.len(),
+            zeros.as_mut_ptr(),
+            zeros.len(),
+            ones.as_mut_ptr(),
+            ones.len(),
+            &mut answer,
+        )
+    };
+    let [length, calls, ..] = results(number, answer)?;
+    Ok(Garbled { length, calls })
+}
+
+/// Chooses the inputs' tokens for their values. Refusals 1 to 7, 9, 10, 11, 19.
+///
+/// `values` has n bytes, each 0 or 1; `zeros` and `ones` have 16n bytes each, the inputs' zero tokens (the front of what
+/// [`garble`] wrote) and one tokens. Writes 16n bytes to `tokens`.
+pub fn encode(circuit: &[u8], values: &[u8], zeros: &[u8], ones: &[u8], tokens: &mut [u8]) -> Result<(), Refusal> {
+    let mut answer = [0; 4];
+    // SAFETY: pointers and lengths are slices'; `tokens` and `answer` are borrowed alone.
+    let number = unsafe {
+        library::weighhare_encode(
+            circuit.as_ptr(),
+            circuit.len(),
+            values.as_ptr(),
+            values.len(),
+            zeros.as_ptr(),
+            zeros.len(),
+            ones.as_ptr(),
+            ones.len(),
+            tokens.as_mut_ptr(),
+            tokens.len(),
+            &mut answer,
+        )
+    };
+    results(number, answer).map(|_| ())
+}
+
+/// Evaluates a garbled circuit, and answers the calls of the block cipher made: p in schemes 1 and 2, 2p in scheme 3.
+/// Refusals 1 to 7, 11, 12 to 18, 19.
+///
+/// `tokens` has 16n bytes, a token for each input; `material` is exactly as long as [`Garbled::length`] says. Writes
+/// 16(n+q) bytes to `wires`: the token of every wire.
+pub fn evaluate(circuit: &[u8], tokens: &[u8], material: &[u8], wires: &mut [u8]) -> Result<usize, Refusal> {
+    let mut answer = [0; 4];
+    // SAFETY: pointers and lengths are slices'; `wires` and `answer` are borrowed alone.
+    let number = unsafe {
+        library::weighhare_evaluate(
+            circuit.as_ptr(),
+            circuit.len(),
+            tokens.as_ptr(),
+            tokens.len(),
+            material.as_ptr(),
+            material.len(),
+            wires.as_mut_ptr(),
+            wires.len(),
+            &mut answer,
+        )
+    };
+    let [calls, ..] = results(number, answer)?;
+    Ok(calls)
+}
+
+/// Decodes the outputs' tokens to bits. Any tokens decode. Refusals 1 to 7, 11, 12 to 18, 19.
+///
+/// `tokens` has 16m bytes, the tokens of the outputs (the end of what [`evaluate`] wrote); `material` is exactly as long as
+/// [`Garbled::length`] says. Writes m bytes to `bits`, each 0 or 1.
+pub fn decode(circuit: &[u8], tokens: &[u8], material: &[u8], bits: &mut [u8]) -> Result<(), Refusal> {
+    let mut answer = [0; 4];
+    // SAFETY: pointers and lengths are slices'; `bits` and `answer` are borrowed alone.
+    let number = unsafe {
+        library::weighhare_decode(
+            circuit.as_ptr(),
+            circuit.len(),
+            tokens.as_ptr(),
+            tokens.len(),
+            material.as_ptr(),
+            material.len(),
+            bits.as_mut_ptr(),
+            bits.len(),
+            &mut answer,
+        )
+    };
+    results(number, answer).map(|_| ())
+}
+
+/// The token of a wire for a bit: 16 bytes of one of the two lists. Refusals 10, 11, 20.
+///
+/// `zeros` and `ones` have one length, a multiple of 16; `wire` counts from 1; `bit` is 0 or 1.
+///
+/// ```
+/// let zeros = [0; 32];
+/// let ones = [1; 32];
+/// assert_eq!(weighhare::pick(&zeros, &ones, 2, 1)?, &ones[16..]);
+/// # Ok::<(), weighhare::Refusal>(())
+/// ```
+pub fn pick<'a>(zeros: &'a [u8], ones: &'a [u8], wire: u16, bit: u8) -> Result<&'a [u8], Refusal> {
+    let mut answer = [0; 4];
+    // SAFETY: pointers and lengths are slices'; `answer` is borrowed alone.
+    let number = unsafe {
+        library::weighhare_pick(
+            zeros.as_ptr(),
+            zeros.len(),
+            ones.as_ptr(),
+            ones.len(),
+            wire,
+            bit,
+            &mut answer,
+        )
+    };
+    let [list, start, length, _] = results(number, answer)?;
+    let list = if list == 0 { zeros } else { ones };
+    Ok(&list[start..start + length])
+}
+
+/// The four words of an answer if nothing refused, else the refusal.
+fn results(number: u8, answer: library::Answer) -> Result<[usize; 4], Refusal> {
+    let words = answer.map(|word| word as usize);
+    if number == 0 {
+        return Ok(words);
+    }
+    match Refusal::from_number(number, words[0]) {
+        Some(refusal) => Err(refusal),
+        None => panic!(
+            "libweighhare.a gave refusal {number} at place {}, which there is not",
+            words[0]
+        ),
+    }
+}

@@ -1,0 +1,81 @@
+//! The functions of `libweighhare.a`, as `include/weighhare.h` declares them.
+
+/// Four words: the place of a refusal, or an operation's results.
+pub type Answer = [u64; 4];
+
+extern "C" {
+    pub fn weighhare_check(circuit: *const u8, circuit_len: usize, answer: *mut Answer) -> u8;
+
+    pub fn weighhare_plain(
+        circuit: *const u8,
+        circuit_len: usize,
+        values: *const u8,
+        values_len: usize,
+        wires: *mut u8,
+        wires_len: usize,
+        answer: *mut Answer,
+    ) -> u8;
+
+    pub fn weighhare_garble(
+        circuit: *const u8,
+        circuit_len: usize,
+        seed: *const u8,
+        seed_len: usize,
+        scheme: u8,
+        material: *mut u8,
+        material_len: usize,
+        zeros: *mut u8,
+        zeros_len: usize,
+        ones: *mut u8,
+        ones_len: usize,
+        answer: *mut Answer,
+    ) -> u8;
+
+    pub fn weighhare_encode(
+        circuit: *const u8,
+        circuit_len: usize,
+        values: *const u8,
+        values_len: usize,
+        zeros: *const u8,
+        zeros_len: usize,
+        ones: *const u8,
+        ones_len: usize,
+        tokens: *mut u8,
+        tokens_len: usize,
+        answer: *mut Answer,
+    ) -> u8;
+
+    pub fn weighhare_evaluate(
+        circuit: *const u8,
+        circuit_len: usize,
+        tokens: *const u8,
+        tokens_len: usize,
+        material: *const u8,
+        material_len: usize,
+        wires: *mut u8,
+        wires_len: usize,
+        answer: *mut Answer,
+    ) -> u8;
+
+    pub fn weighhare_decode(
+        circuit: *const u8,
+        circuit_len: usize,
+        tokens: *const u8,
+        tokens_len: usize,
+        material: *const u8,
+        material_len: usize,
+        bits: *mut u8,
+        bits_len: usize,
+        answer: *mut Answer,
+    ) -> u8;
+
+    pub fn weighhare_pick(
+        zeros: *const u8,
+        zeros_len: usize,
+        ones: *const u8,
+        ones_len: usize,
+        wire: u16,
+        bit: u8,
+        answer: *mut Answer,
+    ) -> u8;
+}

@@ -1,0 +1,294 @@
+//! Why an operation refuses its arguments.
+
+use std::error::Error;
+use std::fmt;
+
+/// Why an operation refused: the first condition that holds, in rising number, with its place.
+///
+/// A refusal leaves every buffer as it was. Its `Display` says in words what is wrong and where.
+#[derive(Clone, Copy, Debug, PartialEq, Eq, Hash)]
+#[must_use = "a refused operation wrote nothing"]
+pub enum Refusal {
+    /// 1: the circuit has under 8 bytes.
+    CircuitShort {
+        /// The circuit's length.
+        length: usize,
+    },
+    /// 2: the circuit does not begin with the mark 43 48. Its place is 0.
+    CircuitMark,
+    /// 3: the circuit's n, m or q breaks a limit. Its place is 2.
+    Limits,
+    /// 4: the circuit's length is not 8+7q.
+    CircuitLength {
+        /// The circuit's length.
+        length: usize,
+    },
+    /// 5: a gate does not begin with the mark 43 47.
+    GateMark {
+        /// The gate's wire number.
+        wire: u16,
+    },
+    /// 6: a gate's operands a and b are not 1 ≤ a < b < the gate's wire number.
+    Operands {
+        /// The gate's wire number.
+        wire: u16,
+    },
+    /// 7: a gate's code is neither charged nor free.
+    Code {
+        /// The gate's wire number.
+        wire: u16,
+    },
+    /// 8: the seed has not 16 bytes.
+    SeedLength {
+        /// The seed's length.
+        length: usize,
+    },
+    /// 9: the value list has not a byte for each input.
+    ValuesLength {
+        /// The list's length.
+        length: usize,
+    },
+    /// 10: a value is neither 0 nor 1; in pick, the bit.
+    Value {
+        /// The index of the first such value, from 0; in pick 0.
+        index: usize,
+    },
+    /// 11: a token list has the wrong length; in pick, the two lengths differ or are no multiple of 16.
+    TokensLength {
+        /// The length of the first list that is wrong; in pick that of the zero list.
+        length: usize,
+    },
+    /// 12: the material has under 9 bytes.
+    MaterialShort {
+        /// The material's length.
+        length: usize,
+    },
+    /// 13: the material does not begin with the mark 47 48. Its place is 0.
+    MaterialMark,
+    /// 14: the scheme, the argument or the material's, is not 1, 2 or 3.
+    Scheme {
+        /// The scheme.
+        scheme: u8,
+    },
+    /// 15: the material's n, m or q is not the circuit's. Its place is 3.
+    MaterialSizes,
+    /// 16: the material's length is not that of its scheme and the circuit.
+    MaterialLength {
+        /// The material's length.
+        length: usize,
+    },
+    /// 17: a row record has a wrong mark or wire number.
+    RowRecord {
+        /// The wire number due.
+        wire: u16,
+    },
+    /// 18: the material's last record has a wrong mark or a byte over 1.
+    LastRecord {
+        /// Where the record starts.
+        start: usize,
+    },
+    /// 19: an output buffer is too short.
+    Room {
+        /// The bytes needed, of the first such buffer.
+        needed: usize,
+    },
+    /// 20: pick's wire is 0 or past the lists.
+    PickWire {
+        /// The wire.
+        wire: u16,
+    },
+}
+
+impl Refusal {
+    /// The refusal's number, 1 to 20.
+    pub fn number(self) -> u8 {
+        self.number_and_place().0
+    }
+
+    /// The refusal's place: a length, a wire number, an index or an offset, by its number.
+    pub fn place(self) -> usize {
+        self.number_and_place().1
+    }
+
+    fn number_and_place(self) -> (u8, usize) {
+        match self {
+            Self::CircuitShort { length } => (1, length),
+            Self::CircuitMark => (2, 0),
+            Self::Limits => (3, 2),
+            Self::CircuitLength { length } => (4, length),
+            Self::GateMark { wire } => (5, wire.into()),
+            Self::Operands { wire } => (6, wire.into()),
+            Self::Code { wire } => (7, wire.into()),
+            Self::SeedLength { length } => (8, length),
+            Self::ValuesLength { length } => (9, length),
+            Self::Value { index } => (10, index),
+            Self::TokensLength { length } => (11, length),
+            Self::MaterialShort { length } => (12, length),
+            Self::MaterialMark => (13, 0),
+            Self::Scheme { scheme } => (14, scheme.into()),
+            Self::MaterialSizes => (15, 3),
+            Self::MaterialLength { length } => (16, length),
+            Self::RowRecord { wire } => (17, wire.into()),
+            Self::LastRecord { start } => (18, start),
+            Self::Room { needed } => (19, needed),
+            Self::PickWire { wire } => (20, wire.into()),
+        }
+    }
+
+    /// The refusal of that number at that place, if there is one: a wire number has 16 bits, a scheme 8,
+    /// and 2, 3, 13 and 15 have one place each.
+    pub fn from_number(number: u8, place: usize) -> Option<Self> {
+        let refusal = match number {
+            1 => Self::CircuitShort { length: place },
+            2 => Self::CircuitMark,
+            3 => Self::Limits,
+            4 => Self::CircuitLength { length: place },
+            5 => Self::GateMark {
+                wire: place.try_into().ok()?,
+            },
+            6 => Self::Operands {
+                wire: place.try_into().ok()?,
+            },
+            7 => Self::Code {
+                wire: place.try_into().ok()?,
+            },
+            8 => Self::SeedLength { length: place },
+            9 => Self::ValuesLength { length: place },
+            10 => Self::Value { index: place },
+            11 => Self::TokensLength { length: place },
+            12 => Self::MaterialShort { length: place },
+            13 => Self::MaterialMark,
+            14 => Self::Scheme {
+                scheme: place.try_into().ok()?,
+            },
+            15 => Self::MaterialSizes,
+            16 => Self::MaterialLength { length: place },
+            17 => Self::RowRecord {
+                wire: place.try_into().ok()?,
+            },
+            18 => Self::LastRecord { start: place },
+            19 => Self::Room { needed: place },
+            20 => Self::PickWire {
+                wire: place.try_into().ok()?,
+            },
+            _ => return None,
+        };
+        (refusal.place() == place).then_some(refusal)
+    }
+}
+
+/// `7 bytes`, `1 byte`.
+struct Bytes(usize);
+
+impl fmt::Display for Bytes {
+    fn fmt(&self, f: &mut fmt::Formatter<'_>) -> fmt::Result {
+        let ending = if self.0 == 1 { "" } else { "s" };
+        write!(f, "{} byte{ending}", self.0)
+    }
+}
+
+impl fmt::Display for Refusal {
+    fn fmt(&self, f: &mut fmt::Formatter<'_>) -> fmt::Result {
+        match *self {
+            Self::CircuitShort { length } => write!(f, "the circuit has {}, a header needs 8", Bytes(length)),
+            Self::CircuitMark => write!(f, "the circuit does not begin with the mark 43 48"),
+            Self::Limits => write!(f, "the circuit's sizes, at byte 2, break a limit: {LIMITS}"),
+            Self::CircuitLength { length } => write!(f, "the circuit has {}, not 8 and 7 for each gate", Bytes(length)),
+            Self::GateMark { wire } => write!(f, "the gate of wire {wire} does not begin with the mark 43 47"),
+            Self::Operands { wire } => write!(
+                f,
+                "the gate of wire {wire} has operands that are not 1 <= a < b < {wire}"
+            ),
+            Self::Code { wire } => write!(f, "the gate of wire {wire} has a code that is not one of {CODES}"),
+            Self::SeedLength { length } => write!(f, "the seed has {}, it needs 16", Bytes(length)),
+            Self::ValuesLength { length } => write!(f, "the value list has {}, not one for each input", Bytes(length)),
+            Self::Value { index } => write!(f, "the value at index {index} is neither 0 nor 1"),
+            Self::TokensLength { length } => write!(f, "a token list has the wrong length, {}", Bytes(length)),
+            Self::MaterialShort { length } => write!(f, "the material has {}, a header needs 9", Bytes(length)),
+            Self::MaterialMark => write!(f, "the material does not begin with the mark 47 48"),
+            Self::Scheme { scheme } => write!(f, "the scheme is {scheme}, it must be 1, 2 or 3"),
+            Self::MaterialSizes => write!(f, "the material's n, m or q, at byte 3, is not the circuit's"),
+            Self::MaterialLength { length } => write!(f, "the material has {}, {NOT_ITS_LENGTH}", Bytes(length)),
+            Self::RowRecord { wire } => write!(f, "the row record due for wire {wire} has a wrong mark or wire number"),
+            Self::LastRecord { start } => {
+                write!(f, "the last record, at byte {start}, has a wrong mark or a byte over 1")
+            }
+            Self::Room { needed } => write!(f, "an output buffer is too short, it needs {}", Bytes(needed)),
+            Self::PickWire { wire } => write!(f, "wire {wire} is not in the token lists"),
+        }
+    }
+}
+
+const LIMITS: &str = "n from 2 to 4096, m from 1 to q, q at least 1, n+q at most 65535";
+const CODES: &str = "1, 2, 4, 7, 8, 11, 13, 14 (charged), 6, 9 (free)";
+const NOT_ITS_LENGTH: &str = "which is not the length for its scheme and the circuit";
+
+impl Error for Refusal {}
+
+#[cfg(test)]
+mod tests {
+    use super::Refusal;
+
+    /// What is said of each refusal, in the order of their numbers, each at a place that it can have.
+    const SAID: [(usize, &str); 20] = [
+        (7, "the circuit has 7 bytes, a header needs 8"),
+        (0, "the circuit does not begin with the mark 43 48"),
+        (
+            2,
+            "the circuit's sizes, at byte 2, break a limit: \
+             n from 2 to 4096, m from 1 to q, q at least 1, n+q at most 65535",
+        ),
+        (14, "the circuit has 14 bytes, not 8 and 7 for each gate"),
+        (3, "the gate of wire 3 does not begin with the mark 43 47"),
+        (3, "the gate of wire 3 has operands that are not 1 <= a < b < 3"),
+        (
+            3,
+            "the gate of wire 3 has a code that is not one of 1, 2, 4, 7, 8, 11, 13, 14 (charged), 6, 9 (free)",
+        ),
+        (15, "the seed has 15 bytes, it needs 16"),
+        (1, "the value list has 1 byte, not one for each input"),
+        (1, "the value at index 1 is neither 0 nor 1"),
+        (31, "a token list has the wrong length, 31 bytes"),
+        (8, "the material has 8 bytes, a header needs 9"),
+        (0, "the material does not begin with the mark 47 48"),
+        (4, "the scheme is 4, it must be 1, 2 or 3"),
+        (3, "the material's n, m or q, at byte 3, is not the circuit's"),
+        (
+            79,
+            "the material has 79 bytes, which is not the length for its scheme and the circuit",
+        ),
+        (3, "the row record due for wire 3 has a wrong mark or wire number"),
+        (77, "the last record, at byte 77, has a wrong mark or a byte over 1"),
+        (48, "an output buffer is too short, it needs 48 bytes"),
+        (0, "wire 0 is not in the token lists"),
+    ];
+
+    #[test]
+    fn each_says_what_is_wrong_and_where() {
+        for (number, (place, said)) in (1..).zip(SAID) {
+            let refusal = Refusal::from_number(number, place).expect("a refusal");
+            assert_eq!(refusal.to_string(), said, "refusal {number}");
+        }
+    }
+
+    #[test]
+    fn each_keeps_its_number_and_place() {
+        for (number, (place, _)) in (1..).zip(SAID) {
+            let refusal = Refusal::from_number(number, place).expect("a refusal");
+            assert_eq!((refusal.number(), refusal.place()), (number, place));
+        }
+    }
+
+    #[test]
+    fn no_other_number_and_no_other_place() {
+        assert_eq!(Refusal::from_number(0, 0), None);
+        assert_eq!(Refusal::from_number(21, 0), None);
+        for (number, place) in [(2, 1), (3, 0), (13, 1), (15, 2)] {
+            assert_eq!(Refusal::from_number(number, place), None, "{number} has one place");
+        }
+        for number in [5, 6, 7, 17, 20] {
+            assert_eq!(Refusal::from_number(number, 65_536), None, "a wire has 16 bits");
+        }
+        assert_eq!(Refusal::from_number(14, 256), None, "a scheme has 8 bits");
+    }
+}

@@ -1,0 +1,42 @@
+//! The AND gate of document 01's examples, garbled.
+
+/// 2 inputs, 1 output, 1 gate: wire 3 is wire 1 AND wire 2.
+pub const AND: [u8; 15] = [0x43, 0x48, 0, 2, 0, 1, 0, 1, 0x43, 0x47, 0, 1, 0, 2, 8];
+
+/// The seed of every garbling here.
+pub const SEED: [u8; 16] = [7; 16];
+
+/// A byte that buffers are filled with, to see what is written.
+pub const FILL: u8 = 0xA5;
+
+/// The AND gate garbled by one scheme.
+pub struct Garbling {
+    pub material: Vec<u8>,
+    pub zeros: [u8; 48],
+    pub ones: [u8; 32],
+}
+
+/// The material's length for the AND gate under a scheme.
+pub fn material_length(scheme: u8) -> usize {
+    [80, 64, 48][usize::from(scheme) - 1]
+}
+
+/// Garbles the AND gate into buffers of just the lengths needed.
+pub fn garbling(scheme: u8) -> Garbling {
+    let mut garbling = Garbling {
+        material: vec![FILL; material_length(scheme)],
+        zeros: [FILL; 48],
+        ones: [FILL; 32],
+    };
+    let garbled = weighhare::garble(
+        &AND,
+        &SEED,
+        scheme,
+        &mut garbling.material,
+        &mut garbling.zeros,
+        &mut garbling.ones,
+    )
+    .expect("garbled");
+    assert_eq!((garbled.length, garbled.calls), (material_length(scheme), 4));
+    garbling
+}

@@ -1,0 +1,84 @@
+//! Each operation on the AND gate of document 01's examples.
+
+mod common;
+
+use common::{garbling, Garbling, AND, FILL, SEED};
+use weighhare::Sizes;
+
+#[test]
+fn check_gives_the_sizes() {
+    let sizes = weighhare::check(&AND).expect("accepted");
+    assert_eq!(sizes, Sizes { n: 2, m: 1, q: 1, p: 1 });
+}
+
+#[test]
+fn plain_gives_every_wire_and_leaves_the_rest() {
+    for (u, v) in [(0, 0), (0, 1), (1, 0), (1, 1)] {
+        let mut wires = [FILL; 5];
+        weighhare::plain(&AND, &[u, v], &mut wires).expect("evaluated");
+        assert_eq!(wires, [u, v, u & v, FILL, FILL]);
+    }
+}
+
+#[test]
+fn garble_leaves_what_is_past_its_bytes() {
+    for scheme in 1..=3 {
+        let exact = garbling(scheme);
+        let (mut material, mut zeros, mut ones) = ([FILL; 100], [FILL; 100], [FILL; 100]);
+        let garbled = weighhare::garble(&AND, &SEED, scheme, &mut material, &mut zeros, &mut ones).expect("garbled");
+        assert_eq!(&material[..garbled.length], exact.material);
+        assert_eq!(zeros[..48], exact.zeros);
+        assert_eq!(ones[..32], exact.ones);
+        for rest in [&material[garbled.length..], &zeros[48..], &ones[32..]] {
+            assert!(rest.iter().all(|byte| *byte == FILL));
+        }
+    }
+}
+
+#[test]
+fn encode_takes_zero_tokens_for_0_and_one_tokens_for_1() {
+    let Garbling { zeros, ones, .. } = garbling(1);
+    let mut tokens = [FILL; 33];
+    weighhare::encode(&AND, &[1, 0], &zeros[..32], &ones, &mut tokens).expect("encoded");
+    assert_eq!(tokens[..16], ones[..16]);
+    assert_eq!(tokens[16..32], zeros[16..32]);
+    assert_eq!(tokens[32], FILL);
+}
+
+#[test]
+fn evaluate_and_decode_give_the_plain_bit() {
+    for scheme in 1..=3 {
+        let Garbling { material, zeros, ones } = garbling(scheme);
+        for (u, v) in [(0, 0), (0, 1), (1, 0), (1, 1)] {
+            let (mut inputs, mut tokens, mut bits) = ([0; 32], [FILL; 49], [FILL; 2]);
+            weighhare::encode(&AND, &[u, v], &zeros[..32], &ones, &mut inputs).expect("encoded");
+            let calls = weighhare::evaluate(&AND, &inputs, &material, &mut tokens).expect("evaluated");
+            assert_eq!(calls, if scheme == 3 { 2 } else { 1 });
+            assert_eq!(tokens[..32], inputs);
+            assert_eq!(
+                tokens[32..48] == zeros[32..],
+                u & v == 0,
+                "the zero token exactly for 0"
+            );
+            assert_eq!(tokens[48], FILL);
+            weighhare::decode(&AND, &tokens[32..48], &material, &mut bits).expect("decoded");
+            assert_eq!(bits, [u & v, FILL]);
+        }
+    }
+}
+
+#[test]
+fn pick_hands_back_a_part_of_the_list() {
+    let Garbling { zeros, ones, .. } = garbling(2);
+    let zeros = &zeros[..32];
+    for wire in 1..=2 {
+        let part = 16 * (usize::from(wire) - 1)..16 * usize::from(wire);
+        for (bit, list) in [(0, zeros), (1, &ones[..])] {
+            let picked = weighhare::pick(zeros, &ones, wire, bit).expect("picked");
+            assert!(
+                std::ptr::eq(picked, &list[part.clone()]),
+                "the list's own bytes, not a copy"
+            );
+        }
+    }
+}
