@@ -120,11 +120,16 @@ impl Call {
 
     /// Runs the call on this implementation.
     pub fn run(&self) -> Outcome {
+        self.run_in(self.buffers())
+    }
+
+    /// Runs the call on this implementation in output buffers with any bytes in them.
+    pub fn run_in(&self, buffers: Vec<Vec<u8>>) -> Outcome {
         match self.operation {
             Operation::Check => self.run_check(),
-            Operation::Garble => self.run_garble(),
+            Operation::Garble => self.run_garble(buffers),
             Operation::Pick => self.run_pick(),
-            _ => self.run_with_one_buffer(),
+            _ => self.run_with_one_buffer(buffers),
         }
     }
 
@@ -139,8 +144,7 @@ impl Call {
         }
     }
 
-    fn run_garble(&self) -> Outcome {
-        let mut buffers = self.buffers();
+    fn run_garble(&self, mut buffers: Vec<Vec<u8>>) -> Outcome {
         let [material, zeros, ones] = buffers.as_mut_slice() else {
             panic!("garble has three output buffers");
         };
@@ -166,8 +170,7 @@ impl Call {
         }
     }
 
-    fn run_with_one_buffer(&self) -> Outcome {
-        let mut buffers = self.buffers();
+    fn run_with_one_buffer(&self, mut buffers: Vec<Vec<u8>>) -> Outcome {
         let [out] = buffers.as_mut_slice() else {
             panic!("{:?} has one output buffer", self.operation);
         };

@@ -2,6 +2,9 @@
 //! same arguments.
 
 pub mod damage;
+pub mod edges;
+pub mod limits;
+pub mod mixed;
 
 use crate::block::{Block, Colour, BLOCK};
 use crate::call::{Call, Operation};

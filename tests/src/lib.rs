@@ -13,6 +13,7 @@ pub mod circuit;
 pub mod evaluator;
 pub mod generate;
 pub mod hex;
+pub mod interface;
 pub mod large;
 pub mod lines;
 pub mod material;

@@ -1,0 +1,228 @@
+//! Calls of the proved library through its C interface. This file is no part of library `second`,
+//! which has no unsafe code and nothing of the proved library: the programs that link the archive
+//! take it in by its path.
+
+use second::call::{Call, Operation};
+use second::interface::{self, Answer, WORDS};
+
+/// Bytes kept before and after every buffer, to see whether something was written beside it.
+const GUARD: usize = 64;
+
+/// What the guards are filled with.
+const GUARD_BYTE: u8 = 0x5A;
+
+type Bytes = *const u8;
+type Out = *mut u8;
+type Words = *mut u64;
+
+unsafe extern "C" {
+    fn weighhare_check(c: Bytes, cl: usize, answer: Words) -> u8;
+    fn weighhare_plain(
+        c: Bytes,
+        cl: usize,
+        v: Bytes,
+        vl: usize,
+        w: Out,
+        wl: usize,
+        answer: Words,
+    ) -> u8;
+    #[rustfmt::skip]
+    fn weighhare_garble(
+        c: Bytes,
+        cl: usize,
+        s: Bytes,
+        sl: usize,
+        scheme: u8,
+        m: Out,
+        ml: usize,
+        z: Out,
+        zl: usize,
+        o: Out,
+        ol: usize,
+        answer: Words,
+    ) -> u8;
+    #[rustfmt::skip]
+    fn weighhare_encode(
+        c: Bytes,
+        cl: usize,
+        v: Bytes,
+        vl: usize,
+        z: Bytes,
+        zl: usize,
+        o: Bytes,
+        ol: usize,
+        t: Out,
+        tl: usize,
+        answer: Words,
+    ) -> u8;
+    #[rustfmt::skip]
+    fn weighhare_evaluate(
+        c: Bytes,
+        cl: usize,
+        t: Bytes,
+        tl: usize,
+        m: Bytes,
+        ml: usize,
+        w: Out,
+        wl: usize,
+        answer: Words,
+    ) -> u8;
+    #[cfg(evaluate_gates)]
+    #[rustfmt::skip]
+    fn weighhare_evaluate_gates(
+        n: u16,
+        m: u16,
+        g: Bytes,
+        q: usize,
+        t: Bytes,
+        tl: usize,
+        m: Bytes,
+        ml: usize,
+        w: Out,
+        wl: usize,
+        answer: Words,
+    ) -> u8;
+    #[rustfmt::skip]
+    fn weighhare_decode(
+        c: Bytes,
+        cl: usize,
+        t: Bytes,
+        tl: usize,
+        m: Bytes,
+        ml: usize,
+        b: Out,
+        bl: usize,
+        answer: Words,
+    ) -> u8;
+    fn weighhare_pick(
+        z: Bytes,
+        zl: usize,
+        o: Bytes,
+        ol: usize,
+        wire: u16,
+        bit: u8,
+        answer: Words,
+    ) -> u8;
+}
+
+/// Whether the archive has the operation.
+pub fn has(operation: Operation) -> bool {
+    operation != Operation::EvaluateGates || cfg!(evaluate_gates)
+}
+
+/// A buffer at a chosen distance from an address that is a multiple of 16, with guards around it.
+struct Lent {
+    memory: Vec<u8>,
+    start: usize,
+    length: usize,
+}
+
+impl Lent {
+    fn new(bytes: &[u8], skew: usize) -> Lent {
+        let mut memory = vec![GUARD_BYTE; bytes.len() + 2 * GUARD + 16];
+        let first = memory.as_ptr() as usize + GUARD;
+        let start = GUARD + (skew + 16 - first % 16) % 16;
+        memory[start..start + bytes.len()].copy_from_slice(bytes);
+        Lent {
+            memory,
+            start,
+            length: bytes.len(),
+        }
+    }
+
+    fn pointer(&mut self) -> Out {
+        self.memory[self.start..].as_mut_ptr()
+    }
+
+    /// The bytes, if nothing was written beside them.
+    fn bytes(&self) -> Option<&[u8]> {
+        let (before, rest) = self.memory.split_at(self.start);
+        let (bytes, after) = rest.split_at(self.length);
+        let mut guards = before.iter().chain(after);
+        guards.all(|&byte| byte == GUARD_BYTE).then_some(bytes)
+    }
+}
+
+/// Runs the call on the archive, or says what it wrote that it must not. The buffers stand `skew`
+/// bytes past a multiple of 16.
+pub fn run(call: &Call, skew: usize) -> Result<Answer, String> {
+    // Gate records are aligned to 2.
+    let skew = if call.operation == Operation::EvaluateGates {
+        skew & !1
+    } else {
+        skew
+    };
+    let inputs = interface::inputs(call);
+    let lend = |(_, bytes): &(&str, Vec<u8>)| Lent::new(bytes, skew);
+    let mut lent: Vec<Lent> = inputs.iter().map(lend).collect();
+    let buffers = interface::buffers(call);
+    let mut outs: Vec<Lent> = buffers.iter().map(|bytes| Lent::new(bytes, skew)).collect();
+    let mut words = [0xA5A5_A5A5_A5A5_A5A5; WORDS];
+    let number = enter(call, &mut lent, &mut outs, &mut words);
+    for (lent, (name, bytes)) in lent.iter().zip(&inputs) {
+        if lent.bytes() != Some(bytes) {
+            return Err(format!("wrote to or beside the {name} handed in"));
+        }
+    }
+    let mut buffers = Vec::new();
+    for (index, out) in outs.iter().enumerate() {
+        let bytes = out
+            .bytes()
+            .ok_or(format!("wrote beside output buffer {index}"))?;
+        buffers.push(bytes.to_vec());
+    }
+    Ok(Answer {
+        number,
+        words,
+        buffers,
+    })
+}
+
+/// Calls the C function. The lists are in the order of its arguments.
+fn enter(call: &Call, inputs: &mut [Lent], outs: &mut [Lent], words: &mut [u64; WORDS]) -> u8 {
+    let answer = words.as_mut_ptr();
+    let list = |lent: &mut Lent| (lent.pointer(), lent.length);
+    let inputs: Vec<(Out, usize)> = inputs.iter_mut().map(list).collect();
+    let outs: Vec<(Out, usize)> = outs.iter_mut().map(list).collect();
+    // Every pointer is to as many bytes as its length says, and nothing overlaps.
+    unsafe {
+        match (call.operation, &inputs[..], &outs[..]) {
+            (Operation::Check, &[(c, cl)], []) => weighhare_check(c, cl, answer),
+            (Operation::Plain, &[(c, cl), (v, vl)], &[(w, wl)]) => {
+                weighhare_plain(c, cl, v, vl, w, wl, answer)
+            }
+            (Operation::Garble, &[(c, cl), (s, sl)], &[(m, ml), (z, zl), (o, ol)]) => {
+                weighhare_garble(c, cl, s, sl, call.scheme, m, ml, z, zl, o, ol, answer)
+            }
+            (Operation::Encode, &[(c, cl), (v, vl), (z, zl), (o, ol)], &[(t, tl)]) => {
+                weighhare_encode(c, cl, v, vl, z, zl, o, ol, t, tl, answer)
+            }
+            (Operation::Evaluate, &[(c, cl), (t, tl), (m, ml)], &[(w, wl)]) => {
+                weighhare_evaluate(c, cl, t, tl, m, ml, w, wl, answer)
+            }
+            #[cfg(evaluate_gates)]
+            (Operation::EvaluateGates, &[(g, gl), (t, tl), (m, ml)], &[(w, wl)]) => {
+                weighhare_evaluate_gates(
+                    call.n,
+                    call.m,
+                    g,
+                    gl / interface::GATE,
+                    t,
+                    tl,
+                    m,
+                    ml,
+                    w,
+                    wl,
+                    answer,
+                )
+            }
+            (Operation::Decode, &[(c, cl), (t, tl), (m, ml)], &[(b, bl)]) => {
+                weighhare_decode(c, cl, t, tl, m, ml, b, bl, answer)
+            }
+            (Operation::Pick, &[(z, zl), (o, ol)], []) => {
+                weighhare_pick(z, zl, o, ol, call.wire, call.bit, answer)
+            }
+            _ => panic!("the archive has no {}", interface::name(call.operation)),
+        }
+    }
+}

@@ -1,0 +1,256 @@
+//! The edges of the refusals: from sound calls on small circuits, every argument is moved across
+//! each of its limits, one step at a time. Which refusal is due is not known here.
+
+use super::{call_on, circuit, room};
+use crate::block::BLOCK;
+use crate::call::{Call, Operation};
+use crate::circuit::Gate;
+use crate::random::Random;
+
+/// A call, and what was done to it.
+#[derive(Clone, Debug)]
+pub struct Edge {
+    /// What was done to the sound call, in words.
+    pub name: String,
+    /// The call.
+    pub call: Call,
+}
+
+/// The edges of one sound call, gathered one by one.
+struct Edges {
+    base: Call,
+    found: Vec<Edge>,
+}
+
+/// All edges of an operation.
+pub fn edges(random: &mut Random, operation: Operation) -> Vec<Edge> {
+    let mut found = Vec::new();
+    for (n, q, charged) in [(2, 1, 100), (3, 2, 0), (5, 9, 60)] {
+        let bytes = circuit(random, n, q, charged);
+        for scheme in 1..=3 {
+            let base = with_scheme(random, operation, &bytes, scheme);
+            found.extend(around(base));
+        }
+    }
+    found
+}
+
+/// A sound call of that scheme, where the operation has one, in exact buffers.
+fn with_scheme(random: &mut Random, operation: Operation, bytes: &[u8], scheme: u8) -> Call {
+    loop {
+        let mut call = call_on(random, operation, bytes);
+        let of_call = match operation {
+            Operation::Garble => call.scheme,
+            Operation::Evaluate | Operation::EvaluateGates | Operation::Decode => call.material[2],
+            _ => scheme,
+        };
+        if of_call == scheme {
+            call.lens = room(&call).expect("a sound call");
+            return call;
+        }
+    }
+}
+
+/// The sound call and all edges of its operation's arguments.
+fn around(base: Call) -> Vec<Edge> {
+    let operation = base.operation;
+    let mut edges = Edges {
+        base,
+        found: Vec::new(),
+    };
+    edges.add("sound", |_| ());
+    match operation {
+        Operation::Pick => edges.of_pick(),
+        Operation::EvaluateGates => edges.of_gates(),
+        _ => edges.of_circuit(),
+    }
+    match operation {
+        Operation::Check | Operation::Pick => {}
+        Operation::Plain => edges.of_values(),
+        Operation::Garble => edges.of_seed_and_scheme(),
+        Operation::Encode => {
+            edges.of_values();
+            edges.of_length("zeros", |call| &mut call.zero);
+            edges.of_length("ones", |call| &mut call.one);
+        }
+        Operation::Evaluate | Operation::EvaluateGates | Operation::Decode => {
+            edges.of_length("tokens", |call| &mut call.tokens);
+            edges.of_material();
+        }
+    }
+    edges.of_room();
+    edges.found
+}
+
+impl Edges {
+    /// Adds the sound call with one change.
+    fn add(&mut self, name: impl Into<String>, change: impl FnOnce(&mut Call)) {
+        let mut call = self.base.clone();
+        change(&mut call);
+        let name = name.into();
+        self.found.push(Edge { name, call });
+    }
+
+    /// Every shorter length of a list, up to 48 less, every one under 48, and some more bytes.
+    fn of_length(&mut self, name: &str, list: impl Fn(&mut Call) -> &mut Vec<u8>) {
+        let length = list(&mut self.base).len();
+        let near = |&other: &usize| other < 48 || other.abs_diff(length) < 48;
+        for other in (0..length + 48).filter(near) {
+            let resized = |call: &mut Call| list(call).resize(other, 0);
+            self.add(format!("{name} of {other} bytes"), resized);
+        }
+    }
+
+    /// Each byte of a list changed in several ways.
+    fn of_bytes(&mut self, name: &str, list: impl Fn(&mut Call) -> &mut Vec<u8>) {
+        for index in 0..list(&mut self.base).len() {
+            for (flip, set) in [
+                (1, None),
+                (0x80, None),
+                (0, Some(0)),
+                (0, Some(2)),
+                (0, Some(255)),
+            ] {
+                let name = format!("byte {index} of {name}, flip {flip}, set {set:?}");
+                self.add(name, |call| {
+                    let byte = &mut list(call)[index];
+                    *byte = set.unwrap_or(*byte ^ flip);
+                });
+            }
+        }
+    }
+
+    fn of_circuit(&mut self) {
+        self.of_length("circuit", |call| &mut call.circuit);
+        self.of_bytes("circuit", |call| &mut call.circuit);
+        for (n, m, q) in sizes() {
+            self.add(format!("n {n}, m {m}, q {q} in the header"), |call| {
+                let numbers = [n, m, q].map(u16::to_be_bytes).concat();
+                call.circuit[2..8].copy_from_slice(&numbers);
+            });
+        }
+        let last = self.base.circuit.len() - 7;
+        for code in 0..=255 {
+            self.add(format!("code {code}"), |call| call.circuit[last + 6] = code);
+        }
+        for (a, b) in operands(last / 7 + usize::from(self.base.circuit[3])) {
+            self.add(format!("operands {a}, {b}"), |call| {
+                let numbers = [a, b].map(u16::to_be_bytes).concat();
+                call.circuit[last + 2..last + 6].copy_from_slice(&numbers);
+            });
+        }
+    }
+
+    /// The list form of a circuit.
+    fn of_gates(&mut self) {
+        for (n, m, _) in sizes() {
+            self.add(format!("n {n}, m {m}"), |call| (call.n, call.m) = (n, m));
+        }
+        let (first, count) = (self.base.gates[0], self.base.gates.len());
+        for other in [0, count - 1, count + 1, 61_440, 65_535, 65_536, 65_537] {
+            let resized = |call: &mut Call| call.gates.resize(other, first);
+            self.add(format!("{other} gates"), resized);
+        }
+        let last = count - 1;
+        for code in 0..=255 {
+            self.add(format!("code {code}"), |call| call.gates[last].code = code);
+        }
+        for (a, b) in operands(count + usize::from(self.base.n)) {
+            self.add(format!("operands {a}, {b}"), |call| {
+                call.gates[last] = Gate {
+                    a,
+                    b,
+                    ..call.gates[last]
+                };
+            });
+        }
+    }
+
+    fn of_values(&mut self) {
+        self.of_length("values", |call| &mut call.values);
+        for index in 0..self.base.values.len() {
+            for value in 0..=255 {
+                let name = format!("value {index} is {value}");
+                self.add(name, |call| call.values[index] = value);
+            }
+        }
+    }
+
+    fn of_seed_and_scheme(&mut self) {
+        self.of_length("seed", |call| &mut call.seed);
+        for scheme in 0..=255 {
+            self.add(format!("scheme {scheme}"), |call| {
+                call.scheme = scheme;
+                call.lens = room(call).unwrap_or(vec![2000; 3]);
+            });
+        }
+    }
+
+    fn of_material(&mut self) {
+        self.of_length("material", |call| &mut call.material);
+        self.of_bytes("material", |call| &mut call.material);
+        for scheme in 0..=255 {
+            self.add(format!("scheme {scheme}"), |call| call.material[2] = scheme);
+        }
+    }
+
+    /// Every output buffer: empty, one byte short, exact, longer.
+    fn of_room(&mut self) {
+        for (index, needed) in self.base.lens.clone().into_iter().enumerate() {
+            for len in [
+                0,
+                1,
+                needed - 1,
+                needed,
+                needed + 1,
+                needed + 17,
+                3 * needed,
+            ] {
+                let name = format!("output {index} of {len} bytes");
+                self.add(name, |call| call.lens[index] = len);
+            }
+        }
+    }
+
+    fn of_pick(&mut self) {
+        for bit in 0..=255 {
+            self.add(format!("bit {bit}"), |call| call.bit = bit);
+        }
+        let past = (self.base.zero.len() / BLOCK + 3) as u16;
+        for wire in (0..past).chain([4096, 4097, 65_534, 65_535]) {
+            for bit in 0..=2 {
+                let numbers = |call: &mut Call| (call.wire, call.bit) = (wire, bit);
+                self.add(format!("wire {wire}, bit {bit}"), numbers);
+            }
+        }
+        for (zero, one) in (0..50).flat_map(|zero| (0..50).map(move |one| (zero, one))) {
+            self.add(format!("lists of {zero} and {one} bytes"), |call| {
+                call.zero.resize(zero, 1);
+                call.one.resize(one, 2);
+            });
+        }
+    }
+}
+
+/// Sizes on both sides of every limit.
+fn sizes() -> Vec<(u16, u16, u16)> {
+    let mut sizes = Vec::new();
+    for n in [0, 1, 2, 3, 4095, 4096, 4097, 65_535] {
+        for q in [
+            0u16, 1, 2, 61_438, 61_439, 61_440, 65_532, 65_533, 65_534, 65_535,
+        ] {
+            let most = [0, 1, q.saturating_sub(1), q, q.saturating_add(1), 65_535];
+            sizes.extend(most.map(|m| (n, m, q)));
+        }
+    }
+    sizes
+}
+
+/// Pairs of operands up to just past the gate's own wire.
+fn operands(wire: usize) -> Vec<(u16, u16)> {
+    let numbers = (0..=wire as u16 + 2).chain([256, 65_535]);
+    let pairs = numbers
+        .clone()
+        .flat_map(|a| numbers.clone().map(move |b| (a, b)));
+    pairs.collect()
+}

@@ -1,0 +1,187 @@
+//! The second implementation against the proved library's archive, through the C interface: edges of
+//! every refusal, circuits at the limits, stored cases, and random calls for a time. What must come
+//! back is the second implementation's answer; output buffers are compared whole.
+
+#[path = "../../src/archive.rs"]
+mod archive;
+mod compare;
+mod coverage;
+mod options;
+
+use std::env;
+use std::fs::File;
+use std::os::unix::fs::FileExt;
+use std::path::Path;
+use std::process::ExitCode;
+use std::time::Instant;
+
+use second::call::{Call, Operation};
+use second::cases::{self, Asked};
+use second::generate::{edges, limits, mixed};
+use second::interface;
+use second::random::Random;
+
+use coverage::Coverage;
+use options::Options;
+
+/// A part prints so many of its failures at most.
+const MOST_SHOWN: usize = 5;
+
+/// The run so far.
+struct Run {
+    options: Options,
+    operations: Vec<Operation>,
+    coverage: Coverage,
+    failures: usize,
+    passed: usize,
+    failed: usize,
+}
+
+impl Run {
+    /// Compares one call; where the sides differ, prints how to run it again.
+    fn call(&mut self, call: &Call, skew: usize, again: impl Fn() -> String) {
+        match compare::compare(call, skew) {
+            Ok(number) => self.coverage.count(call.operation, number),
+            Err(difference) => {
+                self.failures += 1;
+                if self.failures <= MOST_SHOWN {
+                    println!("DIFFERS: {}: {difference}", again());
+                    println!("{}", compare::arguments(call));
+                }
+            }
+        }
+    }
+
+    /// Runs a part, says what came of it and counts it.
+    fn part(&mut self, name: &str, work: impl FnOnce(&mut Run)) {
+        let (before, start) = (self.coverage.calls(), Instant::now());
+        self.failures = 0;
+        work(self);
+        let calls = self.coverage.calls() - before;
+        let (failures, time) = (self.failures, start.elapsed().as_secs_f32());
+        let verdict = if failures == 0 { "ok" } else { "FAILED" };
+        println!("test {name} ... {verdict} ({calls} calls agree, {failures} differ, {time:.1} s)");
+        self.passed += usize::from(failures == 0);
+        self.failed += usize::from(failures > 0);
+    }
+
+    /// Every argument across each of its limits, on small circuits.
+    fn edges(&mut self) {
+        for operation in self.operations.clone() {
+            for (index, edge) in edges::edges(&mut Random::new(41), operation)
+                .iter()
+                .enumerate()
+            {
+                self.call(&edge.call, index % 16, || format!("edge {}", edge.name));
+            }
+        }
+    }
+
+    /// Circuits of the smallest and the largest sizes.
+    fn limits(&mut self) {
+        let mut random = Random::new(42);
+        for operation in self.operations.clone() {
+            for shape in 0.. {
+                let Some(calls) = limits::calls(&mut random, operation, shape) else {
+                    break;
+                };
+                for edge in calls {
+                    self.call(&edge.call, shape, || format!("limit {}", edge.name));
+                }
+            }
+        }
+    }
+
+    /// The stored cases of a third reading of 01. The second implementation agrees with all of them.
+    fn stored(&mut self) {
+        let stored = cases::read(include_str!("../../data/base.jsonl")).expect("readable cases");
+        for case in &stored {
+            if let Asked::Call { call, .. } = &case.asked {
+                if archive::has(call.operation) {
+                    self.call(call, 0, || format!("stored case {}", case.id));
+                }
+            }
+        }
+    }
+
+    /// Random calls until the time is over.
+    fn random(&mut self) {
+        let Options { seed, time, .. } = self.options;
+        // Should the archive end the process, this file has the case that it was at.
+        let under_way = Path::new(env!("CARGO_TARGET_TMPDIR")).join("differential-case");
+        let under_way = File::create(under_way).expect("a file to write to");
+        let (start, mut number) = (Instant::now(), 0);
+        while start.elapsed() < time {
+            let again = format!("--seed {seed} --case {number}");
+            let noted = under_way.write_all_at(format!("{again:<50}\n").as_bytes(), 0);
+            noted.expect("a file that can be written");
+            self.random_case(number, &again);
+            number += 1;
+        }
+        println!("random: {number} cases of seed {seed}");
+    }
+
+    /// One random case, unless the archive lacks its operation.
+    fn random_case(&mut self, number: u64, again: &str) {
+        let call = mixed::case(self.options.seed, number);
+        if archive::has(call.operation) {
+            let again = || format!("random case, run again by {again}");
+            self.call(&call, number as usize % 16, again);
+        }
+    }
+
+    /// The random case asked for, with its arguments.
+    fn one_case(&mut self, number: u64) {
+        let seed = self.options.seed;
+        println!("{}", compare::arguments(&mixed::case(seed, number)));
+        self.random_case(number, &format!("--seed {seed} --case {number}"));
+    }
+
+    /// Every refusal that an operation can give was met.
+    fn all_met(&mut self) {
+        for missing in self.coverage.report(&self.operations) {
+            println!("NOT MET: {missing}");
+            self.failures += 1;
+        }
+        for operation in Operation::ALL {
+            if !archive::has(operation) {
+                let name = interface::name(operation);
+                println!("coverage: {name}: not in the archive, nothing compared");
+            }
+        }
+    }
+}
+
+fn main() -> ExitCode {
+    let Some(options) = options::read(env::args()) else {
+        eprintln!("{}", options::USAGE);
+        return ExitCode::from(2);
+    };
+    let operations = Operation::ALL
+        .into_iter()
+        .filter(|&operation| archive::has(operation));
+    let mut run = Run {
+        options,
+        operations: operations.collect(),
+        coverage: Coverage::default(),
+        failures: 0,
+        passed: 0,
+        failed: 0,
+    };
+    if let Some(number) = options.case {
+        run.part("one random case", |run| run.one_case(number));
+    } else if options.chosen {
+        run.part("edges", Run::edges);
+        run.part("limits", Run::limits);
+        run.part("stored cases", Run::stored);
+        run.part("random", Run::random);
+        run.part("coverage", Run::all_met);
+    }
+    let Run { passed, failed, .. } = run;
+    let verdict = if failed == 0 { "ok" } else { "FAILED" };
+    println!(
+        "\ntest result: {verdict}. {passed} passed; {failed} failed; {} calls agree\n",
+        run.coverage.calls()
+    );
+    ExitCode::from(u8::from(failed > 0))
+}
