@@ -22,7 +22,7 @@ fn main() {
         println!("cargo:rustc-cfg=evaluate_gates");
     }
     println!("cargo:rustc-link-arg-tests={}", archive.display());
-    // aes
+    println!("cargo:rustc-link-arg-bin=archive_aes={}", archive.display());
 }
 
 /// The repository's archive, made anew where it is not up to date.

@@ -105,11 +105,6 @@ unsafe extern "C" {
     ) -> u8;
 }
 
-/// Whether the archive has the operation.
-pub fn has(operation: Operation) -> bool {
-    operation != Operation::EvaluateGates || cfg!(evaluate_gates)
-}
-
 /// A buffer at a chosen distance from an address that is a multiple of 16, with guards around it.
 struct Lent {
     memory: Vec<u8>,

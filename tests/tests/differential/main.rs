@@ -27,6 +27,11 @@ use options::Options;
 /// A part prints so many of its failures at most.
 const MOST_SHOWN: usize = 5;
 
+/// Whether the archive has the operation.
+fn has(operation: Operation) -> bool {
+    operation != Operation::EvaluateGates || cfg!(evaluate_gates)
+}
+
 /// The run so far.
 struct Run {
     options: Options,
@@ -97,7 +102,7 @@ impl Run {
         let stored = cases::read(include_str!("../../data/base.jsonl")).expect("readable cases");
         for case in &stored {
             if let Asked::Call { call, .. } = &case.asked {
-                if archive::has(call.operation) {
+                if has(call.operation) {
                     self.call(call, 0, || format!("stored case {}", case.id));
                 }
             }
@@ -124,7 +129,7 @@ impl Run {
     /// One random case, unless the archive lacks its operation.
     fn random_case(&mut self, number: u64, again: &str) {
         let call = mixed::case(self.options.seed, number);
-        if archive::has(call.operation) {
+        if has(call.operation) {
             let again = || format!("random case, run again by {again}");
             self.call(&call, number as usize % 16, again);
         }
@@ -144,7 +149,7 @@ impl Run {
             self.failures += 1;
         }
         for operation in Operation::ALL {
-            if !archive::has(operation) {
+            if !has(operation) {
                 let name = interface::name(operation);
                 println!("coverage: {name}: not in the archive, nothing compared");
             }
@@ -159,7 +164,7 @@ fn main() -> ExitCode {
     };
     let operations = Operation::ALL
         .into_iter()
-        .filter(|&operation| archive::has(operation));
+        .filter(|&operation| has(operation));
     let mut run = Run {
         options,
         operations: operations.collect(),

@@ -1,0 +1,90 @@
+//! Prints AES-128 encryptions to be compared with an outside one: of this implementation, and of the
+//! proved library as far as its C interface shows them. A line is a source, a key, blocks, and what
+//! the source says they are encrypted to; `offset` has the last bit set to 1 (01, Tokens).
+
+#[path = "../archive.rs"]
+mod archive;
+
+use std::{env, process};
+
+use second::aes::Key;
+use second::block::{Block, BLOCK};
+use second::call::{Call, Operation};
+use second::generate::{call_on, circuit, seed};
+use second::hex::text;
+use second::random::Random;
+
+/// A line of this implementation: any key, any blocks.
+fn second_line(random: &mut Random) -> String {
+    let key = Block::list(&seed(random))[0].0;
+    let blocks = random.bytes(5 * BLOCK);
+    let encrypted = Block::list(&blocks).into_iter();
+    let encrypted = encrypted.flat_map(|block| Key::expand(&key).encrypt(block).0);
+    let encrypted: Vec<u8> = encrypted.collect();
+    format!(
+        "second {} {} {}",
+        text(&key),
+        text(&blocks),
+        text(&encrypted)
+    )
+}
+
+/// The output buffers of a call that the archive does not refuse.
+fn archive_buffers(call: &Call) -> Vec<Vec<u8>> {
+    let answer = archive::run(call, 0).expect("nothing written beside the buffers");
+    assert_eq!(answer.number, 0, "a sound call");
+    answer.buffers
+}
+
+/// Lines of garble: block i under the seed is the zero token of input i, and block 0 is R.
+fn seed_lines(random: &mut Random) -> String {
+    let inputs = random.between(2, 9);
+    let bytes = circuit(random, inputs as u16, 3, 50);
+    let call = call_on(random, Operation::Garble, &bytes);
+    let buffers = archive_buffers(&call);
+    let numbers: Vec<u8> = (1..=inputs).flat_map(|i| Block::number(i).0).collect();
+    let zeros = &buffers[1][..BLOCK * inputs];
+    let offset = Block::list(zeros)[0] ^ Block::list(&buffers[2])[0];
+    let key = text(&call.seed);
+    let blocks = format!("seed {key} {} {}", text(&numbers), text(zeros));
+    format!(
+        "{blocks}\noffset {key} {} {}",
+        text(&Block::ZERO.0),
+        text(&offset.0)
+    )
+}
+
+/// A line of evaluate: under scheme 1 the token of a gate is π(K) ⊕ K ⊕ its row, for any two tokens,
+/// with K = 2A ⊕ 4B ⊕ T; so π of any block is seen.
+fn pi_line(random: &mut Random) -> String {
+    let bytes = circuit(random, 2, 1, 100);
+    let mut call = call_on(random, Operation::Evaluate, &bytes);
+    while call.material[2] != 1 {
+        call = call_on(random, Operation::Evaluate, &bytes);
+    }
+    let held = Block::list(&call.tokens);
+    let row = 2 * usize::from(held[0].colour().0) + usize::from(held[1].colour().0);
+    let sealed = Block::list(&call.material[9 + 4..])[row];
+    let k = held[0].double() ^ held[1].double_twice() ^ Block::number(4 * 3 + row);
+    let token = Block::list(&archive_buffers(&call)[0])[2];
+    let key: Vec<u8> = (0..16).collect();
+    let encrypted = token ^ k ^ sealed;
+    format!("pi {} {} {}", text(&key), text(&k.0), text(&encrypted.0))
+}
+
+fn main() {
+    let words: Vec<u64> = env::args()
+        .skip(1)
+        .filter_map(|word| word.parse().ok())
+        .collect();
+    let &[seed, count] = &words[..] else {
+        eprintln!("usage: archive_aes SEED COUNT");
+        process::exit(2);
+    };
+    let mut random = Random::new(seed);
+    for _ in 0..count {
+        println!("{}", second_line(&mut random));
+        println!("{}", seed_lines(&mut random));
+        println!("{}", pi_line(&mut random));
+    }
+}
