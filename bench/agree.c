@@ -1,0 +1,113 @@
+/* The workers compared, byte for byte. */
+#include "agree.h"
+
+#include <stdio.h>
+#include <stdlib.h>
+#include <string.h>
+
+/* A copy of all that a worker writes. */
+struct written {
+    uint8_t *bytes;
+    size_t length;
+};
+
+static void differ(const struct worker *w, const char *what)
+{
+    fprintf(stderr, "bench: %s and %s differ: %s\n", workers[0].name, w->name, what);
+    exit(1);
+}
+
+static void append(struct written *to, const void *bytes, size_t length)
+{
+    to->bytes = realloc(to->bytes, to->length + length);
+    if (to->bytes == NULL)
+        exit(2);
+    memcpy(to->bytes + to->length, bytes, length);
+    to->length += length;
+}
+
+/* Garble's and evaluate's answers and whole buffers, whatever they say of the arguments. */
+static struct written all_written(const struct worker *w, struct subject *s, uint8_t scheme)
+{
+    struct written all = {NULL, 0};
+    uint64_t answer[4];
+    uint8_t number = w->check(s->circuit, s->circuit_length, answer);
+    append(&all, &number, 1);
+    append(&all, answer, sizeof answer);
+    memset(s->material, 0x5A, s->material_room);
+    memset(s->zeros, 0x5A, 16 * s->wires);
+    memset(s->ones, 0x5A, 16 * INPUTS);
+    number = w->garble(s->circuit, s->circuit_length, s->seed, 16, scheme, s->material, s->material_room, s->zeros,
+                       16 * s->wires, s->ones, 16 * INPUTS, answer);
+    append(&all, &number, 1);
+    append(&all, answer, sizeof answer);
+    append(&all, s->material, s->material_room);
+    append(&all, s->zeros, 16 * s->wires);
+    append(&all, s->ones, 16 * INPUTS);
+    return all;
+}
+
+static struct written all_evaluated(const struct worker *w, struct subject *s)
+{
+    struct written all = {NULL, 0};
+    uint64_t answer[4];
+    memset(s->held, 0x5A, 16 * s->wires);
+    uint8_t number = w->evaluate(s->circuit, s->circuit_length, s->tokens, 16 * INPUTS, s->material, s->material_length,
+                                 s->held, 16 * s->wires, answer);
+    append(&all, &number, 1);
+    append(&all, answer, sizeof answer);
+    append(&all, s->held, 16 * s->wires);
+    return all;
+}
+
+static void same(const struct worker *w, const char *what, struct written library, struct written other)
+{
+    if (library.length != other.length || memcmp(library.bytes, other.bytes, library.length) != 0)
+        differ(w, what);
+    free(other.bytes);
+}
+
+static void agree_on_garble(struct subject *s, uint8_t scheme)
+{
+    struct written library = all_written(&workers[0], s, scheme);
+    for (unsigned i = 1; i < worker_count(); i++)
+        same(&workers[i], "check or garble", library, all_written(&workers[i], s, scheme));
+    free(library.bytes);
+}
+
+static void agree_on_evaluate(struct subject *s)
+{
+    struct written library = all_evaluated(&workers[0], s);
+    for (unsigned i = 1; i < worker_count(); i++)
+        same(&workers[i], "evaluate", library, all_evaluated(&workers[i], s));
+    free(library.bytes);
+}
+
+void agree_on(struct subject *s)
+{
+    for (uint8_t scheme = 1; scheme <= 3; scheme++) {
+        agree_on_garble(s, scheme);
+        run_garble(&workers[0], s, scheme);
+        agree_on_evaluate(s);
+    }
+}
+
+void agree_on_damage(unsigned calls)
+{
+    struct subject s = make_subject(150);
+    for (unsigned i = 0; i < calls; i++) {
+        uint8_t scheme = (uint8_t)(1 + i % 3), flip = (uint8_t)(1u << random_below(8));
+        uint8_t *byte = &s.circuit[random_below(s.circuit_length)];
+        *byte ^= flip;
+        agree_on_garble(&s, scheme);
+        *byte ^= flip;
+        run_garble(&workers[0], &s, scheme);
+        byte = i % 4 ? &s.material[random_below(s.material_length)] : &s.circuit[random_below(s.circuit_length)];
+        *byte ^= flip;
+        s.material_length += i % 7 == 0;
+        agree_on_evaluate(&s);
+        s.material_length -= i % 7 == 0;
+        *byte ^= flip;
+    }
+    free_subject(&s);
+}

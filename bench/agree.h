@@ -1,0 +1,13 @@
+/* That the baselines do the library's work: the same answers and the same bytes. */
+#ifndef AGREE_H
+#define AGREE_H
+
+#include "subject.h"
+
+/* Garbles and evaluates by every worker and compares all that is written; ends the program where they differ. */
+void agree_on(struct subject *s);
+
+/* The same on so many calls with one byte of an argument changed, where most are refused. */
+void agree_on_damage(unsigned calls);
+
+#endif

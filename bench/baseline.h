@@ -1,0 +1,24 @@
+/* The baselines in C: the same operations as the library's, on the same files, with the same refusals. */
+#ifndef BASELINE_H
+#define BASELINE_H
+
+#include <stddef.h>
+#include <stdint.h>
+
+typedef uint8_t check_function(const uint8_t *, size_t, uint64_t *);
+typedef uint8_t garble_function(const uint8_t *, size_t, const uint8_t *, size_t, uint8_t, uint8_t *, size_t, uint8_t *,
+                                size_t, uint8_t *, size_t, uint64_t *);
+typedef uint8_t evaluate_function(const uint8_t *, size_t, const uint8_t *, size_t, const uint8_t *, size_t, uint8_t *,
+                                  size_t, uint64_t *);
+
+/* AES by tables (tables.c). */
+check_function tables_check;
+garble_function tables_garble;
+evaluate_function tables_evaluate;
+
+/* AES by the processor's instructions (aesni.c). */
+check_function aesni_check;
+garble_function aesni_garble;
+evaluate_function aesni_evaluate;
+
+#endif

@@ -1,0 +1,49 @@
+/* The circuit and the material as files: their sizes and their refusals (1 to 7 and 12 to 18), for the baselines in C. */
+#ifndef FILES_H
+#define FILES_H
+
+#include <stddef.h>
+#include <stdint.h>
+
+struct sizes {
+    size_t n, m, q, p;
+};
+
+/* A big-endian number of 2 bytes. */
+static inline unsigned number16(const uint8_t *at)
+{
+    return (unsigned)at[0] << 8 | at[1];
+}
+
+/* Whether a code is charged: 1, 2, 4, 7, 8, 11, 13, 14. */
+static inline unsigned is_charged(unsigned code)
+{
+    return code < 16 && (0x6996u >> code & 1u);
+}
+
+/* Whether a code is free: 6, 9. */
+static inline unsigned is_free(unsigned code)
+{
+    return code < 16 && (0x0240u >> code & 1u);
+}
+
+/* The rows of a charged gate. */
+static inline size_t rows_of(unsigned scheme)
+{
+    return 5 - scheme;
+}
+
+/* The material's length, 11+m+p(4+16r). */
+static inline size_t material_length(const struct sizes *z, unsigned scheme)
+{
+    return 11 + z->m + z->p * (4 + 16 * rows_of(scheme));
+}
+
+/* Refusals 1 to 7: the number, or 0 and the sizes. */
+unsigned check_circuit(const uint8_t *circuit, size_t length, struct sizes *z, uint64_t *place);
+
+/* Refusals 12 to 18 of material for an accepted circuit. */
+unsigned check_material(const uint8_t *circuit, const struct sizes *z, const uint8_t *material, size_t length,
+                        uint64_t *place);
+
+#endif

@@ -1,0 +1,91 @@
+/* One gate, garbled and evaluated by each scheme, over any block and any AES. To be included after `block`, its functions
+ * and pi_1, pi_2, pi_4 are defined. A bit times a block is taken by a mask: colours are as good as random. */
+
+/* R, and what doubling makes of it: doubling is linear, so the other tokens' doubles need not be worked out. */
+struct offset {
+    block r, r2, r4;
+};
+
+static inline struct offset offset_of(block r)
+{
+    block r2 = block_double(r);
+    return (struct offset){r, r2, block_double(r2)};
+}
+
+static inline block xor3(block a, block b, block c)
+{
+    return block_xor(block_xor(a, b), c);
+}
+
+/* The cipher's input for each of the four rows, and the gate's value there: row 2c+d is that of the colours c and d. */
+static inline void row_keys(const struct offset *o, unsigned code, uint64_t g, block xa, block xb, block k[4],
+                            unsigned value[4])
+{
+    unsigned ca = block_colour(xa), cb = block_colour(xb);
+    block both = block_xor(block_double(xa), block_double(block_double(xb)));
+    for (unsigned row = 0; row < 4; row++) {
+        unsigned u = row >> 1 ^ ca, v = (row & 1) ^ cb;
+        block moved = xor3(both, block_times(u, o->r2), block_times(v, o->r4));
+        k[row] = block_xor(moved, block_number(4 * g + row));
+        value[row] = code >> (2 * u + v) & 1;
+    }
+}
+
+/* Schemes 1 and 2: the rows, the first of which scheme 2 does not store, and the zero token. */
+static inline block garble_rows(const struct offset *o, unsigned code, uint64_t g, block xa, block xb, const block *fresh,
+                                block rows[4])
+{
+    block k[4];
+    unsigned value[4];
+    row_keys(o, code, g, xa, xb, k, value);
+    for (int i = 0; i < 4; i++)
+        rows[i] = k[i];
+    pi_4(rows);
+    for (int i = 0; i < 4; i++)
+        rows[i] = block_xor(rows[i], k[i]);
+    block x = fresh ? *fresh : block_xor(rows[0], block_times(value[0], o->r));
+    for (int i = 0; i < 4; i++)
+        rows[i] = xor3(rows[i], x, block_times(value[i], o->r));
+    return x;
+}
+
+/* α, β and γ of a charged code, as bits 2, 1 and 0. */
+static const uint8_t half_bits[16] = {[1] = 6, [2] = 4, [4] = 2, [8] = 0, [14] = 7, [13] = 5, [11] = 3, [7] = 1};
+
+/* Scheme 3: rows G and E, and the zero token. */
+static inline block garble_half(const struct offset *o, unsigned code, uint64_t g, block xa, block xb, block rows[2])
+{
+    unsigned bits = half_bits[code];
+    block a = block_xor(xa, block_times(bits >> 2, o->r)), b = block_xor(xb, block_times(bits >> 1 & 1, o->r));
+    unsigned s = block_colour(a), t = block_colour(b);
+    block ka = block_xor(block_double(a), block_number(2 * g)), kb = block_xor(block_double(b), block_number(2 * g + 1));
+    block k[4] = {ka, block_xor(ka, o->r2), kb, block_xor(kb, o->r2)}, h[4] = {k[0], k[1], k[2], k[3]};
+    pi_4(h);
+    for (int i = 0; i < 4; i++)
+        h[i] = block_xor(h[i], k[i]);
+    block other = block_xor(h[2], h[3]); /* E ⊕ A */
+    rows[0] = xor3(h[0], h[1], block_times(t, o->r));
+    rows[1] = block_xor(other, a);
+    block x = xor3(h[0], h[2], block_times(bits & 1, o->r));
+    return xor3(x, block_times(s, rows[0]), block_times(t, other));
+}
+
+/* Schemes 1 and 2, opened: the one row that the colours point at; block 0 stands for scheme 2's row 0. */
+static inline block open_row(unsigned scheme, uint64_t g, block a, block b, const uint8_t *rows)
+{
+    unsigned row = 2 * block_colour(a) + block_colour(b), stored = scheme == 1 || row > 0;
+    block z = block_times(stored, block_load(rows + 16 * (scheme == 1 ? row : row - stored)));
+    block k = xor3(block_double(a), block_double(block_double(b)), block_number(4 * g + row));
+    return xor3(pi_1(k), k, z);
+}
+
+/* Scheme 3, opened. */
+static inline block open_half(uint64_t g, block a, block b, const uint8_t *rows)
+{
+    block k[2] = {block_xor(block_double(a), block_number(2 * g)), block_xor(block_double(b), block_number(2 * g + 1))};
+    block h[2] = {k[0], k[1]};
+    pi_2(h);
+    block both = block_xor(xor3(h[0], k[0], h[1]), k[1]);
+    block e = block_xor(block_load(rows + 16), a);
+    return xor3(both, block_times(block_colour(a), block_load(rows)), block_times(block_colour(b), e));
+}

@@ -1,0 +1,104 @@
+"""report.py LINES TABLE PLOT: writes the tables (Markdown) and the plot (SVG) of a run of measure."""
+
+import sys
+
+from plot import plot
+from results import CALLS, SCHEMES, WORKERS, Results
+
+HOW = """# Speed, measured
+
+Written by `bench/run`; the plot is `bench.svg`. The circuit has 128 inputs, 128 outputs and q gates, of which half are charged, in random
+order; a gate's operands are any two wires before it. Each number is the best of {rounds} rounds, in nanoseconds of the process's own
+time. In each round the library and the baselines have one turn each, one after the other, so that what else the machine
+does meets all of them. A ratio is that of the two bests; beside it is its range over single rounds, without the outer tenths.
+Times differ from machine to machine and from hour to hour; ratios less, instructions hardly.
+
+The baselines are the same work in C (`bench/*.c`): the same files in and out, the same refusals tried first. Tables: four tables of
+256 words, the fixed key's schedule made once, two blocks side by side. AES-NI: the processor's instructions, up to four blocks side
+by side. Both take a bit times a block by a mask and use that doubling is linear. Compiled by gcc with `-O3 -march=native`; the library
+is built for plain x86-64. In the same run all that they write was compared with the library's, byte for byte, on each
+circuit measured and on 600 calls with a byte of an argument changed.
+
+Processor: {processor}. Compiler: {compiler}.
+"""
+
+
+def table(head, rows):
+    lines = [head, ["---"] * len(head)] + rows
+    return "\n".join("| " + " | ".join(line) + " |" for line in lines) + "\n"
+
+
+def named(operation, scheme):
+    return operation if operation == "check" else f"{operation}, scheme {scheme} ({SCHEMES[scheme]})"
+
+
+def main_table(results, q):
+    workers = results.workers()
+    rows = []
+    for operation, scheme in CALLS + [("check", 3)]:
+        key = (operation, scheme, q)
+        row = [named(operation, scheme)] + [f"{results.best(key, worker):.1f}" for worker in workers]
+        for other in workers[1:]:
+            low, high = results.spread(key, "library", other)
+            row.append(f"**{results.ratio(key, 'library', other):.2f}** ({low:.2f} to {high:.2f})")
+        rows.append(row)
+    head = ["ns for a charged gate; check: for a gate"] + [WORKERS[worker] for worker in workers]
+    return table(head + [f"library : {WORKERS[other]}" for other in workers[1:]], rows)
+
+
+def growth_table(results):
+    rows = []
+    for operation, scheme in CALLS + [("check", 3)]:
+        for worker in ("library", "tables"):
+            bests = [results.best((operation, scheme, q), worker) for q in results.sizes()]
+            rows.append([named(operation, scheme), WORKERS[worker]] + [f"{best:.1f}" for best in bests])
+    return table(["ns for a charged gate; check: for a gate", ""] + [f"q = {q:,}" for q in results.sizes()], rows)
+
+
+def instruction_table(results):
+    rows = []
+    for operation, scheme in CALLS + [("check", 3)]:
+        counts = results.instructions[operation, scheme, 4000]
+        gates = 4000 if operation == "check" else 2000
+        row = [f"{counts[worker] / gates:.0f}" for worker in results.workers()]
+        ratio = counts["library"] / counts["tables"]
+        rows.append([named(operation, scheme)] + row + [f"**{ratio:.2f}**"])
+    head = ["instructions for a charged gate; check: for a gate"] + [WORKERS[worker] for worker in results.workers()]
+    return table(head + ["library : " + WORKERS["tables"]], rows)
+
+
+def repeated_table(results):
+    rows = []
+    for scheme in SCHEMES:
+        key = ("repeated", scheme, 4000)
+        low, high = results.spread(key, "gates", "bytes")
+        ratio = f"**{results.ratio(key, 'gates', 'bytes'):.2f}** ({low:.2f} to {high:.2f})"
+        bests = [f"{results.best(key, form):.1f}" for form in ("bytes", "gates")]
+        rows.append([named("evaluate", scheme)] + bests + [ratio])
+    return table(["ns for a charged gate", "by its bytes", "by its gates already read", "gates : bytes"], rows)
+
+
+def report(results):
+    parts = [HOW.format(**results.about)]
+    largest = max(results.sizes())
+    parts += [f"## q = {largest:,}", main_table(results, largest)]
+    parts += ["## How the cost grows", growth_table(results)]
+    if results.instructions:
+        counted = f"Counted by {results.about['valgrind']}, q = 4,000. The baselines are built with `-march=x86-64-v3` for this.\n"
+        parts += ["## Instructions", counted, instruction_table(results)]
+    if ("repeated", 3, 4000) in results.times:
+        parts += ["## One circuit, run a hundred times", "q = 4,000; the library, the same tokens and material each time.\n"]
+        parts += [repeated_table(results)]
+    return "\n\n".join(part.strip() for part in parts) + "\n"
+
+
+def main(lines, table_path, plot_path):
+    results = Results(lines)
+    with open(table_path, "w", encoding="utf-8") as file:
+        file.write(report(results))
+    with open(plot_path, "w", encoding="utf-8") as file:
+        file.write(plot(results))
+    print(report(results))
+
+
+main(*sys.argv[1:])

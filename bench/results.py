@@ -1,0 +1,48 @@
+"""The lines that measure prints, read: what a round took, and what can be said of several rounds."""
+
+SCHEMES = {1: "GaX", 2: "GaXR", 3: "half-gates"}
+WORKERS = {"library": "the library", "tables": "C, AES by tables", "aesni": "C, AES-NI"}
+CALLS = [(operation, scheme) for operation in ("garble", "evaluate") for scheme in SCHEMES]
+
+
+class Results:
+    """times[operation, scheme, q][worker]: ns for a charged gate (check: for a gate), a number for each round."""
+
+    def __init__(self, path):
+        self.times = {}
+        self.instructions = {}
+        self.about = {}
+        for line in open(path, encoding="utf-8"):
+            self.read(line.split())
+
+    def read(self, words):
+        if words[0] == "about":
+            self.about[words[1]] = " ".join(words[2:])
+        if words[0] not in ("time", "instructions"):
+            return
+        key, worker = (words[1], int(words[2]), int(words[3])), words[4]
+        if words[0] == "time":
+            self.times.setdefault(key, {})[worker] = [float(word) for word in words[5:]]
+        else:
+            self.instructions.setdefault(key, {})[worker] = int(words[5])
+
+    def sizes(self):
+        return sorted({q for _, _, q in self.times if q})
+
+    def workers(self):
+        found = self.times["garble", 3, max(self.sizes())]
+        return [worker for worker in WORKERS if worker in found]
+
+    def best(self, key, worker):
+        return min(self.times[key][worker])
+
+    def ratio(self, key, worker, other):
+        """Of the two bests."""
+        return self.best(key, worker) / self.best(key, other)
+
+    def spread(self, key, worker, other):
+        """The ratio in single rounds: a tenth of the rounds lies below the first number, a tenth above the second."""
+        rounds = zip(self.times[key][worker], self.times[key][other])
+        ratios = sorted(mine / theirs for mine, theirs in rounds)
+        tenth = len(ratios) // 10
+        return ratios[tenth], ratios[-1 - tenth]

@@ -1,0 +1,117 @@
+/* The circuit that is measured, and its calls. */
+#include "subject.h"
+
+#include <stdio.h>
+#include <stdlib.h>
+#include <string.h>
+
+#include "weighhare.h"
+
+const struct worker workers[3] = {
+    {"library", weighhare_check, weighhare_garble, weighhare_evaluate},
+    {"tables", tables_check, tables_garble, tables_evaluate},
+    {"aesni", aesni_check, aesni_garble, aesni_evaluate},
+};
+
+unsigned worker_count(void)
+{
+    return __builtin_cpu_supports("aes") && __builtin_cpu_supports("ssse3") ? 3 : 2;
+}
+
+static uint64_t state = 88172645463325252u;
+
+size_t random_below(size_t bound)
+{
+    state ^= state << 13, state ^= state >> 7, state ^= state << 17;
+    return (size_t)((state >> 11) % bound);
+}
+
+static void put16(uint8_t *at, size_t number)
+{
+    at[0] = (uint8_t)(number >> 8), at[1] = (uint8_t)number;
+}
+
+/* Gate i, counted from 0: two wires before it, and a charged code while `charged` of the `left` gates are to be. */
+static int put_gate(uint8_t *record, size_t wire, size_t charged, size_t left)
+{
+    static const uint8_t charged_codes[8] = {1, 2, 4, 7, 8, 11, 13, 14}, free_codes[2] = {6, 9};
+    size_t b = 2 + random_below(wire - 2), a = 1 + random_below(b - 1);
+    int is_charged = random_below(left) < charged;
+    record[0] = 0x43, record[1] = 0x47;
+    put16(record + 2, a);
+    put16(record + 4, b);
+    record[6] = is_charged ? charged_codes[random_below(8)] : free_codes[random_below(2)];
+    return is_charged;
+}
+
+static uint8_t *room(size_t length)
+{
+    uint8_t *bytes = calloc(length, 1);
+    if (bytes == NULL)
+        exit(2);
+    return bytes;
+}
+
+struct subject make_subject(size_t q)
+{
+    struct subject s = {.q = q, .p = q / 2, .wires = INPUTS + q};
+    s.circuit_length = 8 + 7 * q;
+    s.material_room = 11 + OUTPUTS + s.p * (4 + 64);
+    s.circuit = room(s.circuit_length);
+    s.material = room(s.material_room);
+    s.zeros = room(16 * s.wires);
+    s.held = room(16 * s.wires);
+    s.ones = room(16 * INPUTS);
+    s.tokens = room(16 * INPUTS);
+    s.circuit[0] = 0x43, s.circuit[1] = 0x48;
+    put16(s.circuit + 2, INPUTS);
+    put16(s.circuit + 4, OUTPUTS);
+    put16(s.circuit + 6, q);
+    size_t charged = s.p;
+    for (size_t i = 0; i < q; i++)
+        charged -= (size_t)put_gate(s.circuit + 8 + 7 * i, INPUTS + 1 + i, charged, q - i);
+    for (int i = 0; i < 16; i++)
+        s.seed[i] = (uint8_t)random_below(256);
+    return s;
+}
+
+void free_subject(struct subject *s)
+{
+    free(s->circuit);
+    free(s->material);
+    free(s->zeros);
+    free(s->held);
+    free(s->ones);
+    free(s->tokens);
+}
+
+static void must(const struct worker *w, const char *operation, uint8_t number)
+{
+    if (number != 0) {
+        fprintf(stderr, "bench: %s %s refused %d\n", w->name, operation, number);
+        exit(1);
+    }
+}
+
+void run_check(const struct worker *w, struct subject *s)
+{
+    uint64_t answer[4];
+    must(w, "check", w->check(s->circuit, s->circuit_length, answer));
+}
+
+void run_garble(const struct worker *w, struct subject *s, uint8_t scheme)
+{
+    uint64_t answer[4];
+    must(w, "garble", w->garble(s->circuit, s->circuit_length, s->seed, 16, scheme, s->material, s->material_room, s->zeros,
+                                16 * s->wires, s->ones, 16 * INPUTS, answer));
+    s->material_length = answer[0];
+    for (size_t i = 0; i < INPUTS; i++)
+        memcpy(s->tokens + 16 * i, (i % 2 ? s->ones : s->zeros) + 16 * i, 16);
+}
+
+void run_evaluate(const struct worker *w, struct subject *s)
+{
+    uint64_t answer[4];
+    must(w, "evaluate", w->evaluate(s->circuit, s->circuit_length, s->tokens, 16 * INPUTS, s->material, s->material_length,
+                                    s->held, 16 * s->wires, answer));
+}

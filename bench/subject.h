@@ -1,0 +1,42 @@
+/* What is measured: a circuit with all its buffers, and who works on it. */
+#ifndef SUBJECT_H
+#define SUBJECT_H
+
+#include "baseline.h"
+
+/* An implementation: the library or a baseline. */
+struct worker {
+    const char *name;
+    check_function *check;
+    garble_function *garble;
+    evaluate_function *evaluate;
+};
+
+/* The library, the tables, and the processor's instructions where it has them. */
+extern const struct worker workers[3];
+unsigned worker_count(void);
+
+/* A circuit of 128 inputs, 128 outputs and q gates, of which exactly half are charged, in random order; a gate's operands
+ * are any two wires before it. With room for its material under any scheme, and a seed. */
+struct subject {
+    size_t q, p, wires;
+    uint8_t *circuit, *material, *zeros, *ones, *tokens, *held;
+    size_t circuit_length, material_room, material_length;
+    uint8_t seed[16];
+};
+
+enum { INPUTS = 128, OUTPUTS = 128 };
+
+struct subject make_subject(size_t q);
+void free_subject(struct subject *s);
+
+/* The operations on the subject; each ends the program if the worker refuses. `tokens` holds a token for each input: the
+ * zero or the one token, by turns, of the last garbling. */
+void run_check(const struct worker *w, struct subject *s);
+void run_garble(const struct worker *w, struct subject *s, uint8_t scheme);
+void run_evaluate(const struct worker *w, struct subject *s);
+
+/* A number below a bound, from a generator that always starts alike. */
+size_t random_below(size_t bound);
+
+#endif

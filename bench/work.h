@@ -1,0 +1,166 @@
+/* The operations check, garble and evaluate over the gates of gates.h. NAME(x) gives the operation's own name. To be
+ * included after gates.h and `schedule`, expand and encrypt, which are AES under the seed. */
+#include <string.h>
+
+#include "baseline.h"
+#include "files.h"
+
+#define INLINE static inline __attribute__((always_inline))
+
+static uint8_t answered(uint64_t answer[4], unsigned number, uint64_t first, uint64_t second)
+{
+    answer[0] = first, answer[1] = second, answer[2] = 0, answer[3] = 0;
+    return (uint8_t)number;
+}
+
+uint8_t NAME(check)(const uint8_t *circuit, size_t length, uint64_t answer[4])
+{
+    struct sizes z;
+    uint64_t place;
+    unsigned number = check_circuit(circuit, length, &z, &place);
+    if (number != 0)
+        return answered(answer, number, place, 0);
+    answer[0] = z.n, answer[1] = z.m, answer[2] = z.q, answer[3] = z.p;
+    return 0;
+}
+
+/* A charged gate's record: its mark, its wire number and its rows. */
+INLINE uint8_t *write_record(uint8_t *at, size_t g, const block *rows, size_t count)
+{
+    at[0] = 0x47, at[1] = 0x54, at[2] = (uint8_t)(g >> 8), at[3] = (uint8_t)g;
+    at += 4;
+    for (size_t i = 0; i < count; i++, at += 16)
+        block_store(at, rows[i]);
+    return at;
+}
+
+/* A charged gate: its record, its zero token; the place of the next record. */
+INLINE uint8_t *garble_charged(unsigned scheme, const schedule *seed, const struct offset *o, unsigned code, size_t g,
+                               block xa, block xb, block *x, uint8_t *at)
+{
+    block rows[4];
+    if (scheme == 1) {
+        block fresh = encrypt(seed, block_number(g));
+        *x = garble_rows(o, code, g, xa, xb, &fresh, rows);
+        return write_record(at, g, rows, 4);
+    }
+    if (scheme == 2) {
+        *x = garble_rows(o, code, g, xa, xb, NULL, rows);
+        return write_record(at, g, rows + 1, 3);
+    }
+    *x = garble_half(o, code, g, xa, xb, rows);
+    return write_record(at, g, rows, 2);
+}
+
+/* All gates by one scheme: the zero tokens and the records. The place of the last record. */
+INLINE uint8_t *garble_gates(unsigned scheme, const uint8_t *circuit, const struct sizes *z, const schedule *seed,
+                             const struct offset *o, uint8_t *at, uint8_t *zeros)
+{
+    const uint8_t *record = circuit + 8;
+    size_t end = z->n + z->q;
+    for (size_t g = z->n + 1; g <= end; g++, record += 7) {
+        unsigned code = record[6];
+        block xa = block_load(zeros + 16 * (number16(record + 2) - 1));
+        block xb = block_load(zeros + 16 * (number16(record + 4) - 1));
+        block x;
+        if (is_free(code))
+            x = xor3(xa, xb, block_times(code == 9, o->r));
+        else
+            at = garble_charged(scheme, seed, o, code, g, xa, xb, &x, at);
+        block_store(zeros + 16 * (g - 1), x);
+    }
+    return at;
+}
+
+/* The inputs, the header, the gates and the last record. */
+static void garble_all(unsigned scheme, const uint8_t *circuit, const struct sizes *z, const uint8_t *seed,
+                       uint8_t *material, uint8_t *zeros, uint8_t *ones)
+{
+    schedule keys = expand(seed);
+    struct offset o = offset_of(block_coloured(encrypt(&keys, block_number(0))));
+    for (size_t i = 0; i < z->n; i++) {
+        block x = encrypt(&keys, block_number(i + 1));
+        block_store(zeros + 16 * i, x);
+        block_store(ones + 16 * i, block_xor(x, o.r));
+    }
+    material[0] = 0x47, material[1] = 0x48, material[2] = (uint8_t)scheme;
+    memcpy(material + 3, circuit + 2, 6);
+    uint8_t *at = material + 9;
+    if (scheme == 1)
+        at = garble_gates(1, circuit, z, &keys, &o, at, zeros);
+    else if (scheme == 2)
+        at = garble_gates(2, circuit, z, &keys, &o, at, zeros);
+    else
+        at = garble_gates(3, circuit, z, &keys, &o, at, zeros);
+    at[0] = 0x47, at[1] = 0x44;
+    const uint8_t *last = zeros + 16 * (z->n + z->q - z->m) + 15;
+    for (size_t i = 0; i < z->m; i++)
+        at[2 + i] = last[16 * i] & 1;
+}
+
+uint8_t NAME(garble)(const uint8_t *circuit, size_t length, const uint8_t *seed, size_t seed_length, uint8_t scheme,
+                     uint8_t *material, size_t material_room, uint8_t *zeros, size_t zeros_room, uint8_t *ones,
+                     size_t ones_room, uint64_t answer[4])
+{
+    struct sizes z;
+    uint64_t place;
+    unsigned number = check_circuit(circuit, length, &z, &place);
+    if (number != 0)
+        return answered(answer, number, place, 0);
+    if (seed_length != 16)
+        return answered(answer, 8, seed_length, 0);
+    if (scheme < 1 || scheme > 3)
+        return answered(answer, 14, scheme, 0);
+    size_t file = material_length(&z, scheme), wires = 16 * (z.n + z.q), inputs = 16 * z.n;
+    if (material_room < file)
+        return answered(answer, 19, file, 0);
+    if (zeros_room < wires)
+        return answered(answer, 19, wires, 0);
+    if (ones_room < inputs)
+        return answered(answer, 19, inputs, 0);
+    garble_all(scheme, circuit, &z, seed, material, zeros, ones);
+    return answered(answer, 0, file, 4 * z.p);
+}
+
+/* The tokens of all gates, after the inputs' tokens. */
+INLINE void evaluate_gates(unsigned scheme, const uint8_t *circuit, const struct sizes *z, const uint8_t *at, uint8_t *wires)
+{
+    const uint8_t *record = circuit + 8;
+    size_t end = z->n + z->q, step = 4 + 16 * rows_of(scheme);
+    for (size_t g = z->n + 1; g <= end; g++, record += 7) {
+        block a = block_load(wires + 16 * (number16(record + 2) - 1));
+        block b = block_load(wires + 16 * (number16(record + 4) - 1));
+        block x = block_xor(a, b);
+        if (!is_free(record[6])) {
+            x = scheme == 3 ? open_half(g, a, b, at + 4) : open_row(scheme, g, a, b, at + 4);
+            at += step;
+        }
+        block_store(wires + 16 * (g - 1), x);
+    }
+}
+
+uint8_t NAME(evaluate)(const uint8_t *circuit, size_t length, const uint8_t *tokens, size_t tokens_length,
+                       const uint8_t *material, size_t material_room, uint8_t *wires, size_t wires_room,
+                       uint64_t answer[4])
+{
+    struct sizes z;
+    uint64_t place;
+    unsigned number = check_circuit(circuit, length, &z, &place);
+    if (number != 0)
+        return answered(answer, number, place, 0);
+    if (tokens_length != 16 * z.n)
+        return answered(answer, 11, tokens_length, 0);
+    number = check_material(circuit, &z, material, material_room, &place);
+    if (number != 0)
+        return answered(answer, number, place, 0);
+    if (wires_room < 16 * (z.n + z.q))
+        return answered(answer, 19, 16 * (z.n + z.q), 0);
+    memcpy(wires, tokens, 16 * z.n);
+    if (material[2] == 1)
+        evaluate_gates(1, circuit, &z, material + 9, wires);
+    else if (material[2] == 2)
+        evaluate_gates(2, circuit, &z, material + 9, wires);
+    else
+        evaluate_gates(3, circuit, &z, material + 9, wires);
+    return answered(answer, 0, material[2] == 3 ? 2 * z.p : z.p, 0);
+}
