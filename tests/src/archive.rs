@@ -153,7 +153,9 @@ pub fn run(call: &Call, skew: usize) -> Result<Answer, String> {
     let buffers = interface::buffers(call);
     let mut outs: Vec<Lent> = buffers.iter().map(|bytes| Lent::new(bytes, skew)).collect();
     let mut words = [0xA5A5_A5A5_A5A5_A5A5; WORDS];
-    let number = enter(call, &mut lent, &mut outs, &mut words);
+    let (given, room) = (lists(&mut lent), lists(&mut outs));
+    // The buffers live until the end of this function, and each has a list of its own.
+    let number = unsafe { enter(call, &given, &room, words.as_mut_ptr()) };
     for (lent, (name, bytes)) in lent.iter().zip(&inputs) {
         if lent.bytes() != Some(bytes) {
             return Err(format!("wrote to or beside the {name} handed in"));
@@ -173,51 +175,36 @@ pub fn run(call: &Call, skew: usize) -> Result<Answer, String> {
     })
 }
 
-/// Calls the C function. The lists are in the order of its arguments.
-fn enter(call: &Call, inputs: &mut [Lent], outs: &mut [Lent], words: &mut [u64; WORDS]) -> u8 {
-    let answer = words.as_mut_ptr();
+/// A list as a C function takes it: where it starts, and its length.
+type List = (Out, usize);
+
+fn lists(lent: &mut [Lent]) -> Vec<List> {
     let list = |lent: &mut Lent| (lent.pointer(), lent.length);
-    let inputs: Vec<(Out, usize)> = inputs.iter_mut().map(list).collect();
-    let outs: Vec<(Out, usize)> = outs.iter_mut().map(list).collect();
-    // Every pointer is to as many bytes as its length says, and nothing overlaps.
-    unsafe {
-        match (call.operation, &inputs[..], &outs[..]) {
-            (Operation::Check, &[(c, cl)], []) => weighhare_check(c, cl, answer),
-            (Operation::Plain, &[(c, cl), (v, vl)], &[(w, wl)]) => {
-                weighhare_plain(c, cl, v, vl, w, wl, answer)
-            }
-            (Operation::Garble, &[(c, cl), (s, sl)], &[(m, ml), (z, zl), (o, ol)]) => {
-                weighhare_garble(c, cl, s, sl, call.scheme, m, ml, z, zl, o, ol, answer)
-            }
-            (Operation::Encode, &[(c, cl), (v, vl), (z, zl), (o, ol)], &[(t, tl)]) => {
-                weighhare_encode(c, cl, v, vl, z, zl, o, ol, t, tl, answer)
-            }
-            (Operation::Evaluate, &[(c, cl), (t, tl), (m, ml)], &[(w, wl)]) => {
-                weighhare_evaluate(c, cl, t, tl, m, ml, w, wl, answer)
-            }
-            #[cfg(evaluate_gates)]
-            (Operation::EvaluateGates, &[(g, gl), (t, tl), (m, ml)], &[(w, wl)]) => {
-                weighhare_evaluate_gates(
-                    call.n,
-                    call.m,
-                    g,
-                    gl / interface::GATE,
-                    t,
-                    tl,
-                    m,
-                    ml,
-                    w,
-                    wl,
-                    answer,
-                )
-            }
-            (Operation::Decode, &[(c, cl), (t, tl), (m, ml)], &[(b, bl)]) => {
-                weighhare_decode(c, cl, t, tl, m, ml, b, bl, answer)
-            }
-            (Operation::Pick, &[(z, zl), (o, ol)], []) => {
-                weighhare_pick(z, zl, o, ol, call.wire, call.bit, answer)
-            }
-            _ => panic!("the archive has no {}", interface::name(call.operation)),
-        }
-    }
+    lent.iter_mut().map(list).collect()
+}
+
+/// Calls the C function, with the lists in the order of its arguments: every pointer is to as many
+/// bytes as its length says, and nothing overlaps.
+#[rustfmt::skip]
+unsafe fn enter(call: &Call, inputs: &[List], outs: &[List], answer: Words) -> u8 {
+    unsafe { match (call.operation, inputs, outs) {
+        (Operation::Check, &[(c, cl)], []) =>
+            weighhare_check(c, cl, answer),
+        (Operation::Plain, &[(c, cl), (v, vl)], &[(w, wl)]) =>
+            weighhare_plain(c, cl, v, vl, w, wl, answer),
+        (Operation::Garble, &[(c, cl), (s, sl)], &[(m, ml), (z, zl), (o, ol)]) =>
+            weighhare_garble(c, cl, s, sl, call.scheme, m, ml, z, zl, o, ol, answer),
+        (Operation::Encode, &[(c, cl), (v, vl), (z, zl), (o, ol)], &[(t, tl)]) =>
+            weighhare_encode(c, cl, v, vl, z, zl, o, ol, t, tl, answer),
+        (Operation::Evaluate, &[(c, cl), (t, tl), (m, ml)], &[(w, wl)]) =>
+            weighhare_evaluate(c, cl, t, tl, m, ml, w, wl, answer),
+        #[cfg(evaluate_gates)]
+        (Operation::EvaluateGates, &[(g, gl), (t, tl), (m, ml)], &[(w, wl)]) =>
+            weighhare_evaluate_gates(call.n, call.m, g, gl / interface::GATE, t, tl, m, ml, w, wl, answer),
+        (Operation::Decode, &[(c, cl), (t, tl), (m, ml)], &[(b, bl)]) =>
+            weighhare_decode(c, cl, t, tl, m, ml, b, bl, answer),
+        (Operation::Pick, &[(z, zl), (o, ol)], []) =>
+            weighhare_pick(z, zl, o, ol, call.wire, call.bit, answer),
+        _ => panic!("the archive has no {}", interface::name(call.operation)),
+    } }
 }

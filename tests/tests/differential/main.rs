@@ -1,5 +1,6 @@
 //! The second implementation against the proved library's archive, through the C interface: edges of
-//! every refusal, circuits at the limits, stored cases, and random calls for a time. What must come
+//! every refusal, every two refusals at once, circuits at the limits, stored cases, and random calls
+//! for a time. What must come
 //! back is the second implementation's answer; output buffers are compared whole.
 
 #[path = "../../src/archive.rs"]
@@ -17,6 +18,7 @@ use std::time::Instant;
 
 use second::call::{Call, Operation};
 use second::cases::{self, Asked};
+use second::generate::damage::damaged_call;
 use second::generate::{edges, limits, mixed};
 use second::interface;
 use second::random::Random;
@@ -78,6 +80,22 @@ impl Run {
                 .enumerate()
             {
                 self.call(&edge.call, index % 16, || format!("edge {}", edge.name));
+            }
+        }
+    }
+
+    /// Every two refusals of an operation at once.
+    fn pairs(&mut self) {
+        let mut random = Random::new(43);
+        for operation in self.operations.clone() {
+            for &first in operation.refusals() {
+                for &second in operation.refusals() {
+                    for skew in 0..4 {
+                        let call = damaged_call(&mut random, operation, &[first, second]);
+                        let again = || format!("pair {first} and {second}");
+                        self.call(&call, skew, again);
+                    }
+                }
             }
         }
     }
@@ -177,6 +195,7 @@ fn main() -> ExitCode {
         run.part("one random case", |run| run.one_case(number));
     } else if options.chosen {
         run.part("edges", Run::edges);
+        run.part("pairs", Run::pairs);
         run.part("limits", Run::limits);
         run.part("stored cases", Run::stored);
         run.part("random", Run::random);
