@@ -20,7 +20,10 @@ const SHAPES: [(u16, u16, usize); 8] = [
 /// The calls of an operation on the shape of that number; none past the last.
 pub fn calls(random: &mut Random, operation: Operation, shape: usize) -> Option<Vec<Edge>> {
     let &(n, q, charged) = SHAPES.get(shape)?;
-    let bytes = circuit(random, n, q, charged);
+    let mut bytes = circuit(random, n, q, charged);
+    // m by turns at both of its ends.
+    let m = if shape % 2 == 0 { q } else { 1 };
+    bytes[4..6].copy_from_slice(&m.to_be_bytes());
     let mut base = call_on(random, operation, &bytes);
     base.lens = room(&base).expect("a sound call");
     let mut calls = vec![edge(n, q, "exact", &base, |_| ())];
