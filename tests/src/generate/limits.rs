@@ -1,7 +1,9 @@
 //! Calls on circuits at the limits of their sizes: the fewest and the most inputs, gates and wires.
+//! Faults are at the far end, where a place needs the most bits.
 
 use super::edges::Edge;
 use super::{call_on, circuit, room};
+use crate::block::BLOCK;
 use crate::call::{Call, Operation};
 use crate::random::Random;
 
@@ -17,6 +19,16 @@ const SHAPES: [(u16, u16, usize); 8] = [
     (4096, 61_439, 90),
 ];
 
+/// A length that 16 bits do not hold.
+const LONG: usize = 70_000;
+
+/// The calls on one circuit, gathered one by one.
+struct Calls {
+    base: Call,
+    name: String,
+    found: Vec<Edge>,
+}
+
 /// The calls of an operation on the shape of that number; none past the last.
 pub fn calls(random: &mut Random, operation: Operation, shape: usize) -> Option<Vec<Edge>> {
     let &(n, q, charged) = SHAPES.get(shape)?;
@@ -26,70 +38,124 @@ pub fn calls(random: &mut Random, operation: Operation, shape: usize) -> Option<
     bytes[4..6].copy_from_slice(&m.to_be_bytes());
     let mut base = call_on(random, operation, &bytes);
     base.lens = room(&base).expect("a sound call");
-    let mut calls = vec![edge(n, q, "exact", &base, |_| ())];
-    for index in 0..base.lens.len() {
-        let short = |call: &mut Call| call.lens[index] -= 1;
-        calls.push(edge(n, q, "a byte short", &base, short));
-        let long = |call: &mut Call| call.lens[index] += 100;
-        calls.push(edge(n, q, "longer", &base, long));
+    let mut calls = Calls {
+        base,
+        name: format!("n {n}, m {m}, q {q}"),
+        found: Vec::new(),
+    };
+    calls.add("exact", |_| ());
+    calls.of_room();
+    match operation {
+        Operation::Pick => calls.of_pick(),
+        Operation::EvaluateGates => calls.of_gates(n + q),
+        _ => calls.of_circuit(n + q),
     }
-    if !base.circuit.is_empty() {
-        calls.extend(last_gate(n, q, &base));
-        calls.push(edge(n, q, "one gate more", &base, one_more));
+    calls.of_lists();
+    if !calls.base.material.is_empty() {
+        calls.of_material();
     }
-    if let Some(&gate) = base.gates.last() {
-        let more = |call: &mut Call| call.gates.push(gate);
-        calls.push(edge(n, q, "one gate more", &base, more));
-    }
-    if !base.material.is_empty() {
-        calls.extend(far_material(n, q, &base));
-    }
-    Some(calls)
+    Some(calls.found)
 }
 
-fn edge(n: u16, q: u16, name: &str, base: &Call, change: impl FnOnce(&mut Call)) -> Edge {
-    let mut call = base.clone();
-    change(&mut call);
-    let name = format!("n {n}, q {q}, {name}");
-    Edge { name, call }
-}
+impl Calls {
+    /// Adds the sound call with one change.
+    fn add(&mut self, name: &str, change: impl FnOnce(&mut Call)) {
+        let mut call = self.base.clone();
+        change(&mut call);
+        let name = format!("{}, {name}", self.name);
+        self.found.push(Edge { name, call });
+    }
 
-/// The last gate with a fault: its mark, an operand that is its own wire, its code.
-fn last_gate(n: u16, q: u16, base: &Call) -> [Edge; 3] {
-    let last = base.circuit.len() - 7;
-    let own = (n + q).to_be_bytes();
-    [
-        edge(n, q, "last gate's mark", base, |call| {
-            call.circuit[last] ^= 1
-        }),
-        edge(n, q, "last gate's operand is itself", base, |call| {
+    /// Each output buffer a byte too short, and longer.
+    fn of_room(&mut self) {
+        for index in 0..self.base.lens.len() {
+            self.add("a buffer a byte short", |call| call.lens[index] -= 1);
+            self.add("a longer buffer", |call| call.lens[index] += 100);
+        }
+    }
+
+    /// The last gate, whose wire is `own`, with each fault; another length; a gate more than q.
+    fn of_circuit(&mut self, own: u16) {
+        let last = self.base.circuit.len() - 7;
+        let own = own.to_be_bytes();
+        self.add("last gate's mark", |call| call.circuit[last] ^= 1);
+        self.add("last gate's operand is its own wire", |call| {
             call.circuit[last + 4..last + 6].copy_from_slice(&own)
-        }),
-        edge(n, q, "last gate's code", base, |call| {
-            call.circuit[last + 6] = 15
-        }),
-    ]
-}
+        });
+        self.add("last gate's code", |call| call.circuit[last + 6] = 15);
+        self.add("circuit a byte longer", |call| call.circuit.push(0));
+        self.add("circuit a byte short", |call| {
+            call.circuit.pop();
+        });
+        self.add("one gate more", |call| {
+            let q = u16::from_be_bytes([call.circuit[6], call.circuit[7]]) + 1;
+            call.circuit[6..8].copy_from_slice(&q.to_be_bytes());
+            call.circuit.extend([0x43, 0x47, 0, 1, 0, 2, 8]);
+        });
+    }
 
-/// One gate more, in the header and as a record: past the limit where n+q is 65,535.
-fn one_more(call: &mut Call) {
-    let q = u16::from_be_bytes([call.circuit[6], call.circuit[7]]) + 1;
-    call.circuit[6..8].copy_from_slice(&q.to_be_bytes());
-    call.circuit.extend([0x43, 0x47, 0, 1, 0, 2, 8]);
-}
+    /// The same in the list form.
+    fn of_gates(&mut self, own: u16) {
+        let last = self.base.gates.len() - 1;
+        let gate = self.base.gates[last];
+        self.add("last gate's operand is its own wire", |call| {
+            call.gates[last].b = own
+        });
+        self.add("last gate's code", |call| call.gates[last].code = 15);
+        self.add("one gate more", |call| call.gates.push(gate));
+    }
 
-/// Material with a fault at its far end.
-fn far_material(n: u16, q: u16, base: &Call) -> [Edge; 3] {
-    let last = base.material.len() - 1;
-    [
-        edge(n, q, "last byte of the material", base, |call| {
-            call.material[last] = 2
-        }),
-        edge(n, q, "material a byte short", base, |call| {
+    /// Lists of other lengths, and a fault in the last value.
+    fn of_lists(&mut self) {
+        if let Some(last) = self.base.values.len().checked_sub(1) {
+            self.add("last value", |call| call.values[last] = 2);
+            self.add("many values", |call| call.values.resize(LONG, 0));
+        }
+        if !self.base.seed.is_empty() {
+            self.add("a long seed", |call| call.seed.resize(LONG, 0));
+        }
+        if !self.base.zero.is_empty() {
+            self.add("zeros a byte longer", |call| call.zero.push(0));
+            self.add("ones a byte longer", |call| call.one.push(0));
+        }
+        if !self.base.tokens.is_empty() {
+            self.add("tokens a byte longer", |call| call.tokens.push(0));
+        }
+    }
+
+    /// Material with a fault at its far end.
+    fn of_material(&mut self) {
+        let last = self.base.material.len() - 1;
+        self.add("last byte", |call| call.material[last] = 2);
+        self.add("material a byte short", |call| {
             call.material.pop();
-        }),
-        edge(n, q, "material a byte longer", base, |call| {
-            call.material.push(0)
-        }),
-    ]
+        });
+        self.add("material a byte longer", |call| call.material.push(0));
+        let sizes = self.base.read_circuit().expect("a sound call").sizes();
+        if sizes.p > 0 {
+            let rows = 5 - usize::from(self.base.material[2]);
+            let record = last + 1 - 2 - sizes.m - (4 + BLOCK * rows);
+            self.add("last row record", |call| call.material[record + 3] ^= 1);
+        }
+    }
+
+    /// Lists of as many tokens as wires have numbers, and of one more.
+    fn of_pick(&mut self) {
+        for (count, bit) in [
+            (65_535, 0),
+            (65_535, 1),
+            (65_536, 1),
+            (65_535, 2),
+            (65_534, 0),
+        ] {
+            self.add("wire 65,535 of long lists", |call| {
+                call.zero.resize(BLOCK * count, 1);
+                call.one.resize(BLOCK * count, 2);
+                (call.wire, call.bit) = (65_535, bit);
+            });
+        }
+        self.add("lists of two lengths", |call| {
+            call.zero.resize(BLOCK * 65_535, 1)
+        });
+    }
 }
