@@ -34,36 +34,56 @@ static double time_of(const struct worker *w, struct subject *s, enum operation 
     return (now() - start) / (double)calls;
 }
 
-/* All workers in turn, round after round, and a line for each: nanoseconds for a charged gate, or for a gate of check. */
-static void measure(struct subject *s, enum operation operation, uint8_t scheme, unsigned rounds)
+/* What is measured of one circuit, in this order: evaluate takes the material of the garbling before it. */
+static const struct job {
+    enum operation operation;
+    uint8_t scheme;
+} jobs[] = {{CHECK, 3}, {GARBLE, 1}, {EVALUATE, 1}, {GARBLE, 2}, {EVALUATE, 2}, {GARBLE, 3}, {EVALUATE, 3}};
+
+enum { JOBS = sizeof jobs / sizeof jobs[0], SIZES = 4 };
+
+static const size_t sizes[SIZES] = {1000, 4000, 16000, LARGEST};
+
+/* Nanoseconds for a charged gate, or for a gate of check: by size, job, worker and round. */
+static double times[SIZES][JOBS][3][MOST_ROUNDS];
+
+/* Every job of a circuit once by each worker, one worker right after the other. */
+static void measure(struct subject *s, double (*of_size)[3][MOST_ROUNDS], unsigned round)
 {
-    static double times[3][MOST_ROUNDS];
-    double gates = (double)(operation == CHECK ? s->q : s->p);
-    run_garble(&workers[0], s, scheme);
-    for (unsigned round = 0; round < rounds; round++)
+    for (int job = 0; job < JOBS; job++) {
+        enum operation operation = jobs[job].operation;
+        double gates = (double)(operation == CHECK ? s->q : s->p);
         for (unsigned i = 0; i < worker_count(); i++)
-            times[i][round] = time_of(&workers[i], s, operation, scheme) / gates;
-    for (unsigned i = 0; i < worker_count(); i++)
-        print_rounds(operation_names[operation], scheme, s->q, workers[i].name, times[i], rounds);
+            of_size[job][i][round] = time_of(&workers[i], s, operation, jobs[job].scheme) / gates;
+    }
 }
 
+static void print_all(unsigned rounds)
+{
+    for (int size = 0; size < SIZES; size++)
+        for (int job = 0; job < JOBS; job++)
+            for (unsigned i = 0; i < worker_count(); i++)
+                print_rounds(operation_names[jobs[job].operation], jobs[job].scheme, sizes[size], workers[i].name,
+                             times[size][job][i], rounds);
+}
+
+/* A round goes over all circuits and jobs, so that a busy moment of the machine falls on few rounds of each. */
 static void measure_all(unsigned rounds)
 {
-    static const size_t sizes[] = {1000, 4000, 16000, LARGEST};
+    struct subject subjects[SIZES];
     agree_on_damage(600);
-    for (int i = 3; i >= 0; i--) {
-        struct subject s = make_subject(sizes[i]);
-        agree_on(&s);
-        measure(&s, CHECK, 3, rounds);
-        for (uint8_t scheme = 1; scheme <= 3; scheme++) {
-            measure(&s, GARBLE, scheme, rounds);
-            measure(&s, EVALUATE, scheme, rounds);
-            if (s.q == 4000)
-                measure_repeated(&s, scheme, rounds);
-        }
-        free_subject(&s);
+    for (int size = 0; size < SIZES; size++) {
+        subjects[size] = make_subject(sizes[size]);
+        agree_on(&subjects[size]);
     }
-    puts("agree all");
+    for (unsigned round = 0; round < rounds; round++)
+        for (int size = 0; size < SIZES; size++)
+            measure(&subjects[size], times[size], round);
+    print_all(rounds);
+    for (uint8_t scheme = 1; scheme <= 3; scheme++)
+        measure_repeated(&subjects[1], scheme, rounds);
+    for (int size = 0; size < SIZES; size++)
+        free_subject(&subjects[size]);
 }
 
 static int run_once(char **words)

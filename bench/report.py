@@ -9,8 +9,8 @@ HOW = """# Speed, measured
 
 Written by `bench/run`; the plot is `bench.svg`. The circuit has 128 inputs, 128 outputs and q gates, of which half are charged, in random
 order; a gate's operands are any two wires before it. Each number is the best of {rounds} rounds, in nanoseconds of the process's own
-time. In each round the library and the baselines have one turn each, one after the other, so that what else the machine
-does meets all of them. A ratio is that of the two bests; beside it is its range over single rounds, without the outer tenths.
+time. A round goes over all circuits and operations, and at each the library and the baselines have one turn each, one after the
+other, so that what else the machine does meets all of them. A ratio is that of the two bests; beside it is its range over single rounds, without the outer tenths.
 Times differ from machine to machine and from hour to hour; ratios less, instructions hardly.
 
 The baselines are the same work in C (`bench/*.c`): the same files in and out, the same refusals tried first. Tables: four tables of
