@@ -34,7 +34,7 @@ pub fn calls(random: &mut Random, operation: Operation, shape: usize) -> Option<
     let &(n, q, charged) = SHAPES.get(shape)?;
     let mut bytes = circuit(random, n, q, charged);
     // m by turns at both of its ends.
-    let m = if shape % 2 == 0 { q } else { 1 };
+    let m = if shape.is_multiple_of(2) { q } else { 1 };
     bytes[4..6].copy_from_slice(&m.to_be_bytes());
     let mut base = call_on(random, operation, &bytes);
     base.lens = room(&base).expect("a sound call");
