@@ -26,7 +26,6 @@ unsafe extern "C" {
         wl: usize,
         answer: Words,
     ) -> u8;
-    #[rustfmt::skip]
     fn weighhare_garble(
         c: Bytes,
         cl: usize,
@@ -41,7 +40,6 @@ unsafe extern "C" {
         ol: usize,
         answer: Words,
     ) -> u8;
-    #[rustfmt::skip]
     fn weighhare_encode(
         c: Bytes,
         cl: usize,
@@ -55,7 +53,6 @@ unsafe extern "C" {
         tl: usize,
         answer: Words,
     ) -> u8;
-    #[rustfmt::skip]
     fn weighhare_evaluate(
         c: Bytes,
         cl: usize,
@@ -68,7 +65,6 @@ unsafe extern "C" {
         answer: Words,
     ) -> u8;
     #[cfg(evaluate_gates)]
-    #[rustfmt::skip]
     fn weighhare_evaluate_gates(
         n: u16,
         m: u16,
@@ -82,7 +78,6 @@ unsafe extern "C" {
         wl: usize,
         answer: Words,
     ) -> u8;
-    #[rustfmt::skip]
     fn weighhare_decode(
         c: Bytes,
         cl: usize,
