@@ -16,7 +16,8 @@ use Rattle.model.specs.declared.Ran.{Ran}
 use Rattle.model.specs.declared.Evaluated.{Evaluated}
 use Rattle.model.specs.Bytes.{tabulate, over}
 use Rattle.model.specs.Circuit.{circuitOf, inputs, outputs, gates, gateAt, gateWire, kindOf, charge, charges, sizesHold}
-use Rattle.model.specs.Aes.{IsSBox, keyExpansion, fixedKey}
+use Rattle.aes.specs.Tables.{IsTTables}
+use Rattle.model.specs.Aes.{keyExpansion, fixedKey}
 use Rattle.model.specs.Garbling.{schemeOf}
 use Rattle.model.specs.Material.{rowsStored}
 use Rattle.model.specs.Refusals.{Verdict, fine, refused, refuse, _then_, firstOf, numberOf, placeOf, verdictOf, headVerdict, gateVerdict, recordVerdict, gatesVerdict, circuitVerdict, tokensVerdict, materialVerdict, roomVerdict, isCharged, rowStart, rowRecordAt, rowVerdict}
@@ -426,7 +427,7 @@ module _ (ts s : List ℕ) (w : Walk) (g : Gate) (d : List ℕ) (r : Walk) where
 
 -- what it asks, by the pass
 module _ (t k ts s d : List ℕ) (w : Walk) (g : Gate) (asked : Visits t k ts s d w g) where
-  pub asked-t : IsSBox t
+  pub asked-t : IsTTables t
   asked-t = asked .lent .is-t
 
   pub asked-k : k ≡ keyExpansion fixedKey

@@ -1,9 +1,10 @@
 // One gate, evaluated: its token, from the tokens held on its operands (01, Tokens and Scheme 1 to Scheme 3).
-// Whatever enciphers is lent the S-box t and the schedule w of π's fixed key.
+// Whatever enciphers is lent the T-tables t and the schedule w of π's fixed key.
 ghost use mathlib.Core.Path.{_≡_};
 ghost use mathlib.Core.List.{_∷_};
 ghost use lib.ListN.{getD, drop};
-ghost use Rattle.model.specs.Aes.{IsSBox, keyExpansion, fixedKey, block};
+ghost use Rattle.aes.specs.Tables.{IsTTables};
+ghost use Rattle.model.specs.Aes.{keyExpansion, fixedKey, block};
 ghost use Rattle.model.specs.Garbling.{schemeOf};
 ghost use Rattle.model.specs.Evaluation.{cut};
 ghost use Rattle.evaluate.specs.Gate.{RowRoom, RecordRoom, GateRoom, OpenedIs};
@@ -39,7 +40,7 @@ fn reduced_row(material: &[u8], first: usize, i: usize) -> Block
 
 // The token of charged gate g, whose record stands at an index. Schemes 1 and 2 load the one row that the colours point at.
 fn open_charged(
-    t: &[u8; 256],
+    t: &[u32; 1024],
     w: &[u8; 176],
     scheme: u8,
     g: Wire,
@@ -48,7 +49,7 @@ fn open_charged(
     material: &[u8],
     at: usize,
 ) -> Block
-    requires { ⌜ IsSBox (now t) ⌝ }
+    requires { ⌜ IsTTables (now t) ⌝ }
     requires { ⌜ now w ≡ keyExpansion fixedKey ⌝ }
     requires { ⌜ RecordRoom scheme at (now material) ⌝ }
     ensures { λ r. ⌜ r .bytes ≡ schemeOf scheme .opened (g .0) (cut (schemeOf scheme .stored) (drop 4 (drop at (now (material .entry))))) (a .bytes) (b .bytes) ⌝ }
@@ -72,7 +73,7 @@ fn open_charged(
 // The token of gate g of a code, from the tokens a and b. The next row record of the material stands here: it is the gate's own
 // if the gate is charged, and a free gate has none.
 pub fn open_gate(
-    t: &[u8; 256],
+    t: &[u32; 1024],
     w: &[u8; 176],
     scheme: u8,
     g: Wire,
@@ -82,7 +83,7 @@ pub fn open_gate(
     material: &[u8],
     here: Cursor,
 ) -> Opened
-    requires { ⌜ IsSBox (now t) ⌝ }
+    requires { ⌜ IsTTables (now t) ⌝ }
     requires { ⌜ now w ≡ keyExpansion fixedKey ⌝ }
     requires { ⌜ GateRoom scheme code (here .at) (now material) ⌝ }
     ensures { λ r. ⌜ OpenedIs scheme (g .0) code (a .bytes) (b .bytes) (now (material .entry)) (here .at) r ⌝ }

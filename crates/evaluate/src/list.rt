@@ -2,19 +2,20 @@
 // read. No bytes are made of the records: they are walked three times, in the order in which document 01 refuses. Pass 0 looks
 // for faults in the gates (6 and 7), pass 1 checks their row records (17), pass 2 writes their tokens; between the passes stands
 // what is tried once. All is decided here; `walk_gates` below only hands over one record after the other.
-// Whatever enciphers is lent the S-box t and the schedule w of π's fixed key.
+// Whatever enciphers is lent the T-tables t and the schedule w of π's fixed key.
 ghost use mathlib.Core.Path.{_≡_};
 ghost use Prim.Native.Nat.{_+_, _*_};
 ghost use lib.ListN.{getD};
 ghost use Rattle.model.specs.Circuit.{kindOf, charge};
 ghost use Rattle.model.specs.Material.{rowsStored};
-ghost use Rattle.model.specs.Aes.{IsSBox, keyExpansion, fixedKey};
+ghost use Rattle.aes.specs.Tables.{IsTTables};
+ghost use Rattle.model.specs.Aes.{keyExpansion, fixedKey};
 ghost use Rattle.model.specs.Operations.{evaluatedOf, EvaluateGatesIs};
 ghost use Rattle.evaluate.specs.GateList.{Lent, Ended, GoesTo, Begun, Few, TriedLeads, TryLeads, Checks, CheckedLeads, CheckLeads, Writes, WriteLeads, Visits, VisitLeads};
 use crate::walk::calls_made;
 use crate::walk::write_token;
 use aes::fixed_schedule;
-use aes::s_box;
+use aes::t_tables;
 use buffer::copy_front;
 use circuit::gates::GateRead;
 use circuit::gates::read_gate;
@@ -180,14 +181,14 @@ fn check_record(s: Walk, g: Gate, tokens: &[u8], material: &[u8], wires: &mut [u
 
 // Pass 2 at gate g: its token. After the last the calls of π are the answer.
 fn write_next(
-    t: &[u8; 256],
+    t: &[u32; 1024],
     w: &[u8; 176],
     s: Walk,
     g: Gate,
     material: &[u8],
     wires: &mut [u8],
 ) -> Walk
-    requires { ⌜ IsSBox (now t) ⌝ }
+    requires { ⌜ IsTTables (now t) ⌝ }
     requires { ⌜ now w ≡ keyExpansion fixedKey ⌝ }
     requires { ⌜ Writes (now material) (now wires) s g ⌝ }
     ensures { λ r. ⌜ WriteLeads (now (material .entry)) s g (now (wires .entry)) r (now (wires .exit)) ⌝ }
@@ -205,7 +206,7 @@ fn write_next(
 
 // Gate g at its turn.
 pub fn visit(
-    t: &[u8; 256],
+    t: &[u32; 1024],
     w: &[u8; 176],
     s: Walk,
     g: Gate,
@@ -236,7 +237,7 @@ pub fn finish(s: Walk) -> Evaluated
 // The walk over the records. This function and the next are proved by hand, since both hold a slice of structs
 // (proofs/list, with a script that writes the longer proof): so they only hand on what the functions above decide.
 pub fn walk_gates(
-    t: &[u8; 256],
+    t: &[u32; 1024],
     w: &[u8; 176],
     n: u16,
     m: u16,
@@ -257,7 +258,7 @@ pub fn walk_gates(
 }
 
 // The tokens of all wires and the calls of π, from n, m, the gates and the inputs' tokens: what `evaluate` answers to the bytes
-// made from them; or the first of refusals 3, 6 and 7, 11, 12 to 18, 19. The S-box and π's schedule are made once, here.
+// made from them; or the first of refusals 3, 6 and 7, 11, 12 to 18, 19. The T-tables and π's schedule are made once, here.
 pub fn evaluate_gates(
     n: u16,
     m: u16,
@@ -268,7 +269,7 @@ pub fn evaluate_gates(
 ) -> Evaluated
     ensures { λ r. ⌜ EvaluateGatesIs n m (now (gates .entry)) (now (tokens .entry)) (now (material .entry)) (now (wires .entry)) (evaluatedOf r) (now (wires .exit)) ⌝ }
 {
-    let t = s_box();
+    let t = t_tables();
     let w = fixed_schedule();
     walk_gates(&t, &w, n, m, gates, tokens, material, wires)
 }

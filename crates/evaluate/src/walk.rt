@@ -1,9 +1,10 @@
 // The walk over the gates (01, Operations, evaluate): the tokens of all wires, in the buffer that they are read from.
-// Whatever enciphers is lent the S-box t and the schedule w of π's fixed key.
+// Whatever enciphers is lent the T-tables t and the schedule w of π's fixed key.
 ghost use mathlib.Core.Path.{_≡_};
 ghost use Prim.Native.Nat.{_*_, _≤_};
 ghost use Rattle.model.specs.Bytes.{over};
-ghost use Rattle.model.specs.Aes.{IsSBox, keyExpansion, fixedKey};
+ghost use Rattle.aes.specs.Tables.{IsTTables};
+ghost use Rattle.model.specs.Aes.{keyExpansion, fixedKey};
 ghost use Rattle.model.specs.Circuit.{circuitOf, gateAt};
 ghost use Rattle.model.specs.Garbling.{schemeOf};
 ghost use Rattle.model.specs.Material.{joinBlocks};
@@ -11,7 +12,7 @@ ghost use Rattle.model.specs.Evaluation.{cut, evaluate, evaluateBytes};
 ghost use Rattle.evaluate.specs.Walk.{TokenStart, TokenIs, StepStart, WalkStart, WiresStart};
 use crate::gate::open_gate;
 use aes::fixed_schedule;
-use aes::s_box;
+use aes::t_tables;
 use block::load;
 use block::store;
 use buffer::copy_front;
@@ -23,7 +24,7 @@ use model::Wire;
 // Gate k, from 0, of a circuit of n inputs is g: its token is written after those of the wires before it. The next row record
 // stands here, and after this gate where the result says.
 pub fn write_token(
-    t: &[u8; 256],
+    t: &[u32; 1024],
     w: &[u8; 176],
     scheme: u8,
     n: usize,
@@ -33,7 +34,7 @@ pub fn write_token(
     here: Cursor,
     wires: &mut [u8],
 ) -> Cursor
-    requires { ⌜ IsSBox (now t) ⌝ }
+    requires { ⌜ IsTTables (now t) ⌝ }
     requires { ⌜ now w ≡ keyExpansion fixedKey ⌝ }
     requires { ⌜ TokenStart scheme n k g (now material) (here .at) (now wires) ⌝ }
     ensures { λ next. ⌜ TokenIs scheme n k g (now (material .entry)) (here .at) (now (wires .entry)) (next .at) (now (wires .exit)) ⌝ }
@@ -49,7 +50,7 @@ pub fn write_token(
 
 // The same of gate k as the circuit's bytes have it.
 fn write_token_at(
-    t: &[u8; 256],
+    t: &[u32; 1024],
     w: &[u8; 176],
     scheme: u8,
     circuit: &[u8],
@@ -59,7 +60,7 @@ fn write_token_at(
     here: Cursor,
     wires: &mut [u8],
 ) -> Cursor
-    requires { ⌜ IsSBox (now t) ⌝ }
+    requires { ⌜ IsTTables (now t) ⌝ }
     requires { ⌜ now w ≡ keyExpansion fixedKey ⌝ }
     requires { ⌜ StepStart scheme (now circuit) n k (now material) (here .at) (now wires) ⌝ }
     ensures { λ next. ⌜ TokenIs scheme n k (gateAt (now (circuit .entry)) k) (now (material .entry)) (here .at) (now (wires .entry)) (next .at) (now (wires .exit)) ⌝ }
@@ -70,7 +71,7 @@ fn write_token_at(
 
 // The tokens of the gates, written after the inputs' tokens, which stand at the front of the buffer.
 pub fn write_tokens(
-    t: &[u8; 256],
+    t: &[u32; 1024],
     w: &[u8; 176],
     circuit: &[u8],
     n: usize,
@@ -78,7 +79,7 @@ pub fn write_tokens(
     material: &[u8],
     wires: &mut [u8],
 )
-    requires { ⌜ IsSBox (now t) ⌝ }
+    requires { ⌜ IsTTables (now t) ⌝ }
     requires { ⌜ now w ≡ keyExpansion fixedKey ⌝ }
     requires { ⌜ WalkStart (now circuit) (now material) n q (now wires) ⌝ }
     ensures { λ _. ⌜ now (wires .exit) ≡ over (joinBlocks (evaluate (circuitOf (now (circuit .entry))) (cut n (now (wires .entry))) (now (material .entry)))) (now (wires .entry)) ⌝ }
@@ -92,7 +93,7 @@ pub fn write_tokens(
     }
 }
 
-// The tokens of all wires, from those of the inputs. The S-box and π's schedule are made once, here, and lent down.
+// The tokens of all wires, from those of the inputs. The T-tables and π's schedule are made once, here, and lent down.
 pub fn evaluate_wires(
     circuit: &[u8],
     n: usize,
@@ -104,7 +105,7 @@ pub fn evaluate_wires(
     requires { ⌜ WiresStart (now circuit) (now tokens) (now material) n q (now wires) ⌝ }
     ensures { λ _. ⌜ now (wires .exit) ≡ over (evaluateBytes (circuitOf (now (circuit .entry))) (now (tokens .entry)) (now (material .entry))) (now (wires .entry)) ⌝ }
 {
-    let t = s_box();
+    let t = t_tables();
     let w = fixed_schedule();
     copy_front(tokens, wires);
     write_tokens(&t, &w, circuit, n, q, material, wires);
