@@ -4,20 +4,11 @@ top folder, when the parameters of `walk_gates`, `begin`, `visit` or `finish` ch
 
     python3 tools/walk_gates.py && rt fmt
 
-The proof follows the function's MIR statement by statement. At each place it holds a list of things: the function's locals, what
-it owns of the lent slices, and the lifetimes' tokens. The program logic's steps name these by their index in the list, and each
-step moves some. Here the list has names, and the indices are computed.
+walk.py beside it says what such a proof is made of; walk_gates.antt.in has what is not computed.
 """
-import os
+from walk import Walk, low, written
 
 OUT = 'crates/evaluate/proofs/list/walk_gates/Proof.antt'
-UNITS = '₀₁₂₃₄₅₆₇₈₉'
-
-
-def low(i):
-    """The number i in lowered digits."""
-    return ''.join(UNITS[int(c)] for c in str(i))
-
 
 # The locals of the MIR: the result, the eight parameters, and what the body needs.
 LOCALS = ['result', 't', 'w', 'n', 'm', 'gates', 'tokens', 'material', 'wires', 'walk', 'k', 'count', 'goes', 'scaled', 'place',
@@ -58,77 +49,6 @@ def item(x):
     return '‵ (froom %s l%s 0)' % (TYPES[NUMBER[x]], low(NUMBER[x]))
 
 
-class Walk:
-    """A walk over some statements: the names of what is held, and the steps so far."""
-
-    def __init__(self, names):
-        self.names, self.steps = list(names), []
-
-    def at(self, name):
-        return self.names.index(name)
-
-    def step(self, text):
-        self.steps.append(text)
-
-    def text(self, indent):
-        return ('\n' + ' ' * indent).join(self.steps)
-
-    def front(self, *names):
-        """These names to the front."""
-        if self.names[:len(names)] != list(names):
-            self.step('move ! (%s ∷ []) $' % ' ∷ '.join(str(self.at(x)) for x in names))
-            self.names = list(names) + [x for x in self.names if x not in names]
-
-    def keep(self, names):
-        self.step('keep ! (%s ∷ []) $' % ' ∷ '.join(str(self.at(x)) for x in names))
-        self.names = list(names)
-
-    def become(self, count, *names):
-        """The first things have become these."""
-        self.names = list(names) + self.names[count:]
-
-    def load(self, name):
-        return '(load ! (from ! (stop !)) (look ! %d refl))' % self.at(name)
-
-    def field(self, name, i):
-        return '(load ! (from ! (fld ! refl (stop !))) (look-in ! %d (sub ! %d refl (whole !))))' % (self.at(name), i)
-
-    def assign(self, value, local, typed):
-        self.step('assigns ! %s (from ! (stop !)) (init ! %d refl %s) $' % (value, self.at(local), typed))
-
-    def operands(self, names):
-        text = '(no-more !)'
-        for name in reversed(names):
-            text = '(and-then ! %s %s)' % (self.load(name), text)
-        return text
-
-    def forget(self, *names):
-        for name in names:
-            self.step('forget ! %d refl $' % self.at(name))
-
-    def copy(self, name):
-        """What is owned of a lent thing, twice: one to hand on, and one to keep."""
-        self.front('own ' + name)
-        self.step('use1 W (‵ %s ⊛ ‵ %s) (%s) $ split ! $' % (OWN[name], OWN[name], COPY[name]))
-        self.become(1, 'hand ' + name, 'own ' + name)
-
-    def gather(self, name, parts, how='join'):
-        """Some things, joined to one: the first with what the others are joined to."""
-        self.front(*parts[-2:])
-        for i in range(len(parts) - 2, -1, -1):
-            if i < len(parts) - 2:
-                self.front(parts[i], name)
-            self.step('%s ! $' % how)
-            self.become(2, name)
-
-    def scatter(self, name, parts):
-        """The same backwards."""
-        for i, part in enumerate(parts[:-1]):
-            self.front(name)
-            self.step('split ! $')
-            self.become(1, part, parts[-1] if i == len(parts) - 2 else name)
-
-
 def leaves():
     """The turn that leaves the loop: `finish` is called, and its result returned."""
     w = Walk(AT)
@@ -163,7 +83,7 @@ def turn():
     w.assign('(bin ! %s %s tt)' % (w.field('gates', 0), w.load('scaled')), 'place', '(tt, tt)')
     w.step('rewrite ! %d (λ (p : ℕ). ‵ (fat fullShare tyPtr l%s 0 (vptr (xg .ptr .0) p))) (sym (place-is 6 (xg .ptr .1) (s .k))) refl $' % (w.at('place'), low(NUMBER['place'])))
     # the gate, out of the slice and back
-    w.copy('gates')
+    w.copy('gates', OWN['gates'], COPY['gates'])
     w.front('hand gates')
     w.step('fsplit ! $ drop ! $ fsplit ! $ drop ! $')
     w.front('hand gates', 'life gates')
@@ -184,7 +104,7 @@ def turn():
     w.become(2, 'new slice', 'lender')
     # the call
     for name in ['t', 'w', 'tokens', 'material']:
-        w.copy(name)
+        w.copy(name, OWN[name], COPY[name])
     w.gather('asked', ASKED)
     w.step('use1 W (raw (Visit 𝓤 H A mem run .pre (to-visit ν δ s d))) (goes-visit ν δ s d (asks p) (f .1) p) $')
     w.step('calls-at-last ! (fmOf 𝓤 H (W .laws) 𝓣) (Visit 𝓤 H A mem run) known-visit (to-visit ν δ s d) %s (λ v.' % w.operands(['t', 'w', 'walk', 'gate', 'tokens', 'material', 'slice']))
@@ -310,8 +230,6 @@ def starts():
 
 
 def main():
-    here = os.path.dirname(os.path.abspath(__file__))
-    text = open(os.path.join(here, 'walk_gates.antt.in')).read()
     names = ' '.join('l' + low(i) for i in range(len(LOCALS)))
     typed = {'t': '(tt, tt)', 'w': '(tt, tt)', 'n': '(tt, record { fits = n-fits })', 'm': '(tt, record { fits = m-fits })',
              'gates': '(tt, (tt, (record { fits = room-g .0 }, tt)))', 'tokens': '(tt, (tt, (record { fits = room-i .0 }, tt)))',
@@ -332,11 +250,7 @@ def main():
         'PASSED': ' '.join('pass1 ! (init ! %d refl %s) $' % (2 * (len(LOCALS) - 1 - NUMBER[x]), typed[x]) for x in PARAMS),
         'CLOSED': ')' * len(LOCALS),
     }
-    for name, part in parts.items():
-        text = text.replace('@%s@' % name, part)
-    os.makedirs(os.path.dirname(OUT), exist_ok=True)
-    with open(OUT, 'w') as out:
-        out.write(text)
+    written(__file__, OUT, parts)
 
 
 def handed(x):

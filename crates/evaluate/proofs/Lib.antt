@@ -8,3 +8,4 @@ pub mod DecodeLaws
 pub mod GateListLaws
 pub mod GoodWalk
 pub mod Again
+pub mod LentArray

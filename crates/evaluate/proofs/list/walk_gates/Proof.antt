@@ -99,9 +99,25 @@ abbrev WRow : RattleType
 WRow = Array u8 176
 
 abbrev stayed : Stays (this.ended .signature .params) (this.ended .kept)
-stayed = (stay-none-ref (0 ∷ []) tt tSlot yes, (stay-none-ref (1 ∷ []) tt wSlot yes, (stay-none (λ _. u16) yes, (stay-none (λ _. u16) yes,
-    (stay-none-slice (2 ∷ []) tt (plain (λ _. T.the-row)) yes, (stay-none-slice (3 ∷ []) tt (plain (λ _. u8)) yes,
-    (stay-none-slice (4 ∷ []) tt (plain (λ _. u8)) yes, (stay-slice (5 ∷ []) tt (plain (λ _. u8)), tt))))))))
+stayed = (
+  stay-none-ref (0 ∷ []) tt tSlot yes,
+  (
+    stay-none-ref (1 ∷ []) tt wSlot yes,
+    (
+      stay-none (λ _. u16) yes,
+      (
+        stay-none (λ _. u16) yes,
+        (
+          stay-none-slice (2 ∷ []) tt (plain (λ _. T.the-row)) yes,
+          (
+            stay-none-slice (3 ∷ []) tt (plain (λ _. u8)) yes,
+            (stay-none-slice (4 ∷ []) tt (plain (λ _. u8)) yes, (stay-slice (5 ∷ []) tt (plain (λ _. u8)), tt)),
+          ),
+        ),
+      ),
+    ),
+  ),
+)
 
 abbrev word : Ty
 word = tyInt w64
@@ -613,8 +629,22 @@ module _ {M : Type 1} (𝓤 : URA M) (H : Heap 𝓤) (A : Atoms 𝓤) (W : Given
   this-walks : Walks 𝓤 H A this.ended stayed (WpFn 𝓤 H (𝓣 .C) (𝓣 .Λ) code.function) (this.clauses 𝓤 H A mem run)
   this-walks = walked 𝓤 H A this.ended stayed (this.clauses 𝓤 H A mem run) (WpFn 𝓤 H (𝓣 .C) (𝓣 .Λ) code.function)
       (λ κs. (ptr-vals, (ptr-vals, (uint-vals w16, (uint-vals w16, (slice-vals, (slice-vals, (slice-vals, (slice-vals, tt)))))))))
-      (λ κs. (shr-tells (named 0) (κs .0) TRow, (shr-tells (named 1) (κs .1 .0) WRow, (uint-tells w16, (uint-tells w16, (shr-slice-tells (named 2) (κs .1 .1 .0) T.the-row,
-      (shr-slice-tells (named 3) (κs .1 .1 .1 .0) u8, (shr-slice-tells (named 4) (κs .1 .1 .1 .1 .0) u8, (mut-slice-tells (named 5) (κs .1 .1 .1 .1 .1 .0) u8, tt)))))))))
+      (λ κs. (
+        shr-tells (named 0) (κs .0) TRow,
+        (
+          shr-tells (named 1) (κs .1 .0) WRow,
+          (
+            uint-tells w16,
+            (
+              uint-tells w16,
+              (
+                shr-slice-tells (named 2) (κs .1 .1 .0) T.the-row,
+                (shr-slice-tells (named 3) (κs .1 .1 .1 .0) u8, (shr-slice-tells (named 4) (κs .1 .1 .1 .1 .0) u8, (mut-slice-tells (named 5) (κs .1 .1 .1 .1 .1 .0) u8, tt))),
+              ),
+            ),
+          ),
+        ),
+      ))
       (λ κs qs bounds a g are. needs 𝓤 (Lent (now (a .0)) (now (a .1 .0))) _
       (walks 𝓤 H A W mem run (κs .0) (κs .1 .0) (κs .1 .1 .0) (κs .1 .1 .1 .0) (κs .1 .1 .1 .1 .0) (κs .1 .1 .1 .1 .1 .0)
       (qs .0) (qs .1 .0) (qs .1 .1 .0) (qs .1 .1 .1 .0) (qs .1 .1 .1 .1 .0) (qs .1 .1 .1 .1 .1 .0)
@@ -623,11 +653,28 @@ module _ {M : Type 1} (𝓤 : URA M) (H : Heap 𝓤) (A : Atoms 𝓤) (W : Given
       (are .1 .1 .1 .1 .1 .1 .0 .0 .1) (are .1 .1 .1 .1 .1 .1 .1 .0 .0 .1)))
 
   this-meets : Meets 𝓤 H A this.signature (WpFn 𝓤 H (𝓣 .C) (𝓣 .Λ) code.function) (this.spec 𝓤 H A mem run)
-  this-meets = walk-meets 𝓤 H A this.ended stayed W
-      (goes-none-ref 𝓤 H A W 6 (0 ∷ []) tt tSlot yes, (goes-none-ref 𝓤 H A W 6 (1 ∷ []) tt wSlot yes, (goes-none 𝓤 H A W 6 (λ _. u16) yes (λ κs x f. refl),
-      (goes-none 𝓤 H A W 6 (λ _. u16) yes (λ κs x f. refl), (goes-none-slice 𝓤 H A W 6 (2 ∷ []) tt (plain (λ _. T.the-row)) yes,
-      (goes-none-slice 𝓤 H A W 6 (3 ∷ []) tt (plain (λ _. u8)) yes, (goes-none-slice 𝓤 H A W 6 (4 ∷ []) tt (plain (λ _. u8)) yes,
-      (goes-slice 𝓤 H A W 6 5 tt (plain (λ _. u8)), tt))))))))
+  this-meets = walk-meets 𝓤 H A this.ended stayed W (
+    goes-none-ref 𝓤 H A W 6 (0 ∷ []) tt tSlot yes,
+    (
+      goes-none-ref 𝓤 H A W 6 (1 ∷ []) tt wSlot yes,
+      (
+        goes-none 𝓤 H A W 6 (λ _. u16) yes (λ κs x f. refl),
+        (
+          goes-none 𝓤 H A W 6 (λ _. u16) yes (λ κs x f. refl),
+          (
+            goes-none-slice 𝓤 H A W 6 (2 ∷ []) tt (plain (λ _. T.the-row)) yes,
+            (
+              goes-none-slice 𝓤 H A W 6 (3 ∷ []) tt (plain (λ _. u8)) yes,
+              (
+                goes-none-slice 𝓤 H A W 6 (4 ∷ []) tt (plain (λ _. u8)) yes,
+                (goes-slice 𝓤 H A W 6 5 tt (plain (λ _. u8)), tt),
+              ),
+            ),
+          ),
+        ),
+      ),
+    ),
+  )
       (this.clauses 𝓤 H A mem run) (WpFn 𝓤 H (𝓣 .C) (𝓣 .Λ) code.function) (WpFn-mono 𝓤 H (W .laws) 𝓣 code.function) this-walks
 
 pub walk-gates-spec : {M : Type 1} → stated.statement M
