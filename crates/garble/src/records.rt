@@ -1,7 +1,8 @@
 // A charged gate, garbled into the buffers: its zero token and its record (01, Material).
 ghost use mathlib.Core.Path.{_≡_};
 ghost use Rattle.model.specs.Bytes.{put};
-ghost use Rattle.model.specs.Aes.{IsSBox, keyExpansion, fixedKey};
+ghost use Rattle.aes.specs.Tables.{IsTTables};
+ghost use Rattle.model.specs.Aes.{keyExpansion, fixedKey};
 ghost use Rattle.garble.specs.Walk.{RecordRoom, recordBytes, FreshIs, siteAt, ChargedStart, ChargedIs};
 use crate::seed::seed_block;
 use block::Block;
@@ -58,12 +59,12 @@ pub fn write_record(material: &mut [u8], at: usize, own: Wire, stored: usize, g:
 }
 
 // What scheme 1 takes for a gate's zero token: AES under the seed of block g. The other schemes make the token themselves.
-fn fresh_block(t: &[u8; 256], ws: &[u8; 176], scheme: u8, own: Wire) -> Block
-    requires { ⌜ IsSBox (now t) ⌝ }
+fn fresh_block(m: &[u32; 1024], ws: &[u8; 176], scheme: u8, own: Wire) -> Block
+    requires { ⌜ IsTTables (now m) ⌝ }
     ensures { λ r. ⌜ FreshIs (now (ws .entry)) scheme (own .0) (r .bytes) ⌝ }
 {
     if scheme == 1 {
-        seed_block(t, ws, own.0 as usize)
+        seed_block(m, ws, own.0 as usize)
     } else {
         Block::of_number(0)
     }
@@ -87,7 +88,7 @@ pub struct GateIn {
 
 // A charged gate: its zero token goes to a slot of the zeros, its record to a place in the material.
 pub fn garble_charged(
-    t: &[u8; 256],
+    m: &[u32; 1024],
     w: &[u8; 176],
     ws: &[u8; 176],
     plan: Plan,
@@ -100,7 +101,7 @@ pub fn garble_charged(
     zeros: &mut [u8],
     slot: usize,
 )
-    requires { ⌜ IsSBox (now t) ⌝ }
+    requires { ⌜ IsTTables (now m) ⌝ }
     requires { ⌜ now w ≡ keyExpansion fixedKey ⌝ }
     requires { ⌜ ChargedStart (plan .scheme) (plan .stored) (g .code) (u .0) (v .0) (own .0) (now material) at (now zeros) slot ⌝ }
     ensures { λ _. ⌜ ChargedIs (plan .scheme) (siteAt (now (ws .entry)) (plan .r .bytes) (g .own .0) (g .code) (g .xa .bytes) (g .xb .bytes)) (now (material .entry)) at (now (zeros .entry)) slot (now (material .exit)) (now (zeros .exit)) ⌝ }
@@ -110,7 +111,7 @@ pub fn garble_charged(
     let r = plan.r;
     let xa = g.xa;
     let xb = g.xb;
-    let fresh = fresh_block(t, ws, scheme, wire);
+    let fresh = fresh_block(m, ws, scheme, wire);
     let site = Site {
         r,
         fresh,
@@ -119,7 +120,7 @@ pub fn garble_charged(
         xa,
         xb,
     };
-    let made = garble_gate(t, w, scheme, site, u, v, own);
+    let made = garble_gate(m, w, scheme, site, u, v, own);
     store(zeros, slot, made.zero);
     write_record(material, at, wire, plan.stored, made);
 }

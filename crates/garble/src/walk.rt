@@ -1,6 +1,7 @@
 // The walk over the gates: each gets its zero token, and a charged one its record (01, Scheme 1 to 3 and Material).
 ghost use mathlib.Core.Path.{_≡_};
-ghost use Rattle.model.specs.Aes.{IsSBox, keyExpansion, fixedKey};
+ghost use Rattle.aes.specs.Tables.{IsTTables};
+ghost use Rattle.model.specs.Aes.{keyExpansion, fixedKey};
 ghost use Rattle.garble.specs.Walk.{OperandsStart, GateInIs, WalkOf, StepStart, StepIs, GatesStart, GatesIs};
 use crate::records::GateIn;
 use crate::records::Plan;
@@ -34,7 +35,7 @@ fn read_operands(circuit: &[u8], n: usize, k: usize, zeros: &[u8]) -> GateIn
 // One gate: what it adds to the zeros and to the material, at a place; answers the place of the next record.
 // The seed is lent for the contract alone: ws is its schedule.
 pub fn garble_step(
-    t: &[u8; 256],
+    m: &[u32; 1024],
     w: &[u8; 176],
     ws: &[u8; 176],
     seed: &[u8],
@@ -45,7 +46,7 @@ pub fn garble_step(
     at: usize,
     zeros: &mut [u8],
 ) -> usize
-    requires { ⌜ IsSBox (now t) ⌝ }
+    requires { ⌜ IsTTables (now m) ⌝ }
     requires { ⌜ now w ≡ keyExpansion fixedKey ⌝ }
     requires { ⌜ WalkOf (now circuit) (now seed) (plan .scheme) (plan .n) (plan .stored) (plan .r .bytes) (now ws) ⌝ }
     requires { ⌜ StepStart (now circuit) (now seed) (plan .scheme) (plan .stored) k at (now material) (now zeros) ⌝ }
@@ -56,7 +57,7 @@ pub fn garble_step(
     let slot = 16 * (n + k);
     match code_kind(g.code) {
         Kind::Charged(u, v, own) => {
-            garble_charged(t, w, ws, plan, g, u, v, own, material, at, zeros, slot);
+            garble_charged(m, w, ws, plan, g, u, v, own, material, at, zeros, slot);
             at + 4 + 16 * plan.stored
         }
         Kind::Free { p, q, c } => {
@@ -69,7 +70,7 @@ pub fn garble_step(
 
 // All gates, after the inputs' zero tokens and the material's header.
 pub fn garble_gates(
-    t: &[u8; 256],
+    m: &[u32; 1024],
     w: &[u8; 176],
     ws: &[u8; 176],
     seed: &[u8],
@@ -79,7 +80,7 @@ pub fn garble_gates(
     material: &mut [u8],
     zeros: &mut [u8],
 )
-    requires { ⌜ IsSBox (now t) ⌝ }
+    requires { ⌜ IsTTables (now m) ⌝ }
     requires { ⌜ now w ≡ keyExpansion fixedKey ⌝ }
     requires { ⌜ WalkOf (now circuit) (now seed) (plan .scheme) (plan .n) (plan .stored) (plan .r .bytes) (now ws) ⌝ }
     requires { ⌜ GatesStart (now circuit) (now seed) (plan .scheme) (plan .stored) q (now material) (now zeros) ⌝ }
@@ -88,7 +89,7 @@ pub fn garble_gates(
     let mut k: usize = 0;
     let mut at: usize = 9;
     while k < q {
-        at = garble_step(t, w, ws, seed, plan, circuit, k, material, at, zeros);
+        at = garble_step(m, w, ws, seed, plan, circuit, k, material, at, zeros);
         k += 1;
     }
 }

@@ -1,6 +1,7 @@
 // A whole garbling, once nothing refuses: the inputs and the header first, then the gates, then the last record.
 ghost use mathlib.Core.Path.{_≡_};
-ghost use Rattle.model.specs.Aes.{IsSBox, keyExpansion, fixedKey};
+ghost use Rattle.aes.specs.Tables.{IsTTables};
+ghost use Rattle.model.specs.Aes.{keyExpansion, fixedKey};
 ghost use Rattle.garble.specs.Walk.{WalkOf, FrontStart, FrontIs, BodyStart, BodyIs};
 ghost use Rattle.garble.specs.Whole.{WholeStart, WholeIs};
 use crate::last::write_last;
@@ -11,6 +12,7 @@ use crate::walk::garble_gates;
 use aes::expand_key;
 use aes::fixed_schedule;
 use aes::s_box;
+use aes::t_tables;
 use block::Block;
 use block::load;
 use material::rows_stored;
@@ -19,7 +21,7 @@ use model::Sizes;
 
 // The inputs' tokens, and the material's header.
 fn garble_front(
-    t: &[u8; 256],
+    m: &[u32; 1024],
     ws: &[u8; 176],
     r: Block,
     scheme: u8,
@@ -28,17 +30,17 @@ fn garble_front(
     zeros: &mut [u8],
     ones: &mut [u8],
 )
-    requires { ⌜ IsSBox (now t) ⌝ }
+    requires { ⌜ IsTTables (now m) ⌝ }
     requires { ⌜ FrontStart (z .n) (now material) (now zeros) (now ones) ⌝ }
     ensures { λ _. ⌜ FrontIs (now (ws .entry)) (r .bytes) scheme (z .n) (z .m) (z .q) (now (material .entry)) (now (zeros .entry)) (now (ones .entry)) (now (material .exit)) (now (zeros .exit)) (now (ones .exit)) ⌝ }
 {
-    garble_inputs(t, ws, r, z.n, zeros, ones);
+    garble_inputs(m, ws, r, z.n, zeros, ones);
     write_header(material, scheme, z.n, z.m, z.q);
 }
 
 // The gates, and the last record after theirs.
 fn garble_body(
-    t: &[u8; 256],
+    m: &[u32; 1024],
     w: &[u8; 176],
     ws: &[u8; 176],
     seed: &[u8],
@@ -48,13 +50,13 @@ fn garble_body(
     material: &mut [u8],
     zeros: &mut [u8],
 )
-    requires { ⌜ IsSBox (now t) ⌝ }
+    requires { ⌜ IsTTables (now m) ⌝ }
     requires { ⌜ now w ≡ keyExpansion fixedKey ⌝ }
     requires { ⌜ WalkOf (now circuit) (now seed) (plan .scheme) (plan .n) (plan .stored) (plan .r .bytes) (now ws) ⌝ }
     requires { ⌜ BodyStart (now circuit) (now seed) (plan .scheme) (plan .stored) z (now material) (now zeros) ⌝ }
     ensures { λ _. ⌜ BodyIs (now (circuit .entry)) (now (seed .entry)) (plan .scheme) (now (material .entry)) (now (zeros .entry)) (now (material .exit)) (now (zeros .exit)) ⌝ }
 {
-    garble_gates(t, w, ws, seed, plan, circuit, z.q, material, zeros);
+    garble_gates(m, w, ws, seed, plan, circuit, z.q, material, zeros);
     let at = 9 + z.p * (4 + 16 * plan.stored);
     write_last(zeros, z.n + z.q - z.m + 1, z.m, material, at);
 }
@@ -73,11 +75,12 @@ pub fn garble_whole(
     ensures { λ _. ⌜ WholeIs (now (circuit .entry)) (now (seed .entry)) scheme (now (material .entry)) (now (zeros .entry)) (now (ones .entry)) (now (material .exit)) (now (zeros .exit)) (now (ones .exit)) ⌝ }
 {
     let t = s_box();
+    let m = t_tables();
     let w = fixed_schedule();
     let ws = expand_key(&t, load(seed, 0));
-    let r = seed_block(&t, &ws, 0).coloured();
+    let r = seed_block(&m, &ws, 0).coloured();
     let stored = rows_stored(scheme);
-    garble_front(&t, &ws, r, scheme, z, material, zeros, ones);
+    garble_front(&m, &ws, r, scheme, z, material, zeros, ones);
     let n = z.n;
     let plan = Plan {
         scheme,
@@ -85,5 +88,5 @@ pub fn garble_whole(
         n,
         r,
     };
-    garble_body(&t, &w, &ws, seed, plan, circuit, z, material, zeros);
+    garble_body(&m, &w, &ws, seed, plan, circuit, z, material, zeros);
 }
