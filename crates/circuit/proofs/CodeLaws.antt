@@ -1,15 +1,17 @@
--- The codes that no arm of `code_kind` names are refused. Assumes nothing.
-use Prim.Native.Nat.{ℕ, _<_, _≤_}
+-- The codes that no arm of `code_kind` names are refused; and the constants of `code_charge` and `code_refused`. Assumes nothing.
+use Prim.Native.Nat.{ℕ, _/_, _%_, _^_, _<_, _≤_}
 use native.Mathlib.Decide.{decLt}
 use native.Mathlib.Omega.{arith}
-use mathlib.Core.Path.{_≡_, refl, sym}
+use mathlib.Core.Path.{_≡_, refl, sym, ap, _∙_}
 use mathlib.Core.Bool.{Bool, true, false, _||_}
+use mathlib.Core.List.{List}
 use borrow.Author.Tests.{ne-eqb}
 use lib.Dec.{T, eqb}
-use lib.ListN.{List·getD-eq-default}
+use lib.ListN.{getD, List·getD-eq-default}
 use Rattle.model.specs.Bytes.{tabulate}
-use Rattle.model.specs.Circuit.{Kind, charged, free, refused, kinds, kindOf}
+use Rattle.model.specs.Circuit.{Kind, charged, free, refused, kinds, kindOf, charge}
 use Rattle.model.specs.Refusals.{isRefused}
+use Rattle.model.proofs.Lists.{entry}
 use Rattle.model.proofs.Table.{every, at}
 
 named : ℕ → Bool
@@ -50,3 +52,40 @@ module _ (code : ℕ) (h1 : code ≡ 1 → ⊥) (h2 : code ≡ 2 → ⊥) (h4 : 
       go : Dec (code < 16) → refused ≡ kindOf code
       go (Dec.yes h) = sym (small h)
       go (Dec.no h) = sym (large (omega arith))
+
+-- ---- code_charge and code_refused: the bits of their constants, computed over the sixteen codes
+
+past-codes : (code : ℕ) → 15 < code → kindOf code ≡ refused
+unfolding kindOf kinds
+past-codes code h = List·getD-eq-default kinds refused {n = code} (omega arith)
+
+bits : (f g : ℕ → ℕ) → tabulate 16 f ≡ tabulate 16 g → (code : ℕ) → code ≤ 15 → f code ≡ g code
+bits f g e code h =
+    sym (entry 0 16 f code (omega arith)) ∙ ap (λ (xs : List ℕ). getD xs code 0) e ∙ entry 0 16 g code (omega arith)
+
+pub charge-past : (code : ℕ) → 15 < code → 0 ≡ charge (kindOf code)
+charge-past code h = rw (past-codes code h)
+
+pub charge-bit : (code : ℕ) → code ≤ 15 → 0x6996 / 2 ^ code % 2 ≡ charge (kindOf code)
+unfolding kindOf kinds
+charge-bit code h = bits (λ k. 0x6996 / 2 ^ k % 2) (λ k. charge (kindOf k)) refl code h
+
+pub refused-past : (code : ℕ) → 15 < code → true ≡ isRefused (kindOf code)
+refused-past code h = rw (past-codes code h)
+
+toBit : Bool → ℕ
+toBit true = 0
+toBit false = 1
+
+pub refused-bit : (code : ℕ) → code ≤ 15 → eqb (0x6BD6 / 2 ^ code % 2) 0 ≡ isRefused (kindOf code)
+unfolding kindOf kinds toBit
+refused-bit code h =
+    rw (bits (λ k. 0x6BD6 / 2 ^ k % 2) (λ k. toBit (isRefused (kindOf k))) refl code h) (either (isRefused (kindOf code)))
+  where
+    either : (b : Bool) → eqb (toBit b) 0 ≡ b
+    either true = refl
+    either false = refl
+
+pub ruleset charge-cases = (charge-past, charge-bit)
+
+pub ruleset refused-cases = (refused-past, refused-bit)

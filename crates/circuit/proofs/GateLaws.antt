@@ -7,13 +7,11 @@ use mathlib.Core.List.{List}
 use borrow.Author.Tests.{lt-ltb, le-ltb, le-leb, lt-leb, eq-eqb, ne-eqb}
 use lib.ListN.{length, getD}
 use Rattle.model.specs.declared.Gate.{Gate}
-use Rattle.model.specs.declared.Truth.{Truth}
-use Rattle.model.specs.declared.Kind.{Kind}
 use Rattle.model.specs.Bytes.{be16}
-use Rattle.model.specs.Circuit.{kindOf, markAt, recordAt, gateAt, gateWire, operandsHold}
-use Rattle.model.specs.Refusals.{Verdict, fine, refused, refuse, _then_, gateVerdict, recordVerdict}
+use Rattle.model.specs.Circuit.{kindOf, charge, markAt, recordAt, gateAt, gateWire, operandsHold}
+use Rattle.model.specs.Refusals.{Verdict, fine, refused, refuse, _then_, isRefused, gateVerdict, recordVerdict}
 use Rattle.model.specs.Operations.{Answer, no, yes}
-use Rattle.circuit.specs.Answers.{meaning, gateOf, gateAnswer, recordAnswer}
+use Rattle.circuit.specs.Answers.{gateOf, gateAnswer, recordAnswer}
 use Rattle.circuit.specs.declared.gates.GateRead.{GateRead}
 
 -- gate record k as it was read
@@ -38,21 +36,17 @@ module _ (own : ℕ) (g : Gate) where
       unfolding gateVerdict operandsHold _then_ refuse
       operand-high z = simp (le-leb _ _ x, lt-ltb _ _ y, le-ltb _ _ z)
 
-      -- the code's kind as `code_kind` gave it
-      module _ (z : g .b < own) (r : Kind) (is-r : meaning r ≡ kindOf (g .code)) where
-        pub gate-charged : (u v o : Truth) → r ≡ Kind.Charged u v o → yes 1 ≡ gateAnswer own g
+      -- whether the code is refused, as it was read
+      module _ (z : g .b < own) (b : Bool) (is-b : b ≡ isRefused (kindOf (g .code))) where
+        pub gate-refused : b ≡ true → no (refused 7 own) ≡ gateAnswer own g
         unfolding gateVerdict operandsHold _then_ refuse
-        gate-charged u v o e = simp (le-leb _ _ x, lt-ltb _ _ y, lt-ltb _ _ z, ← is-r, e)
+        gate-refused e = simp (le-leb _ _ x, lt-ltb _ _ y, lt-ltb _ _ z, ← is-b, e)
 
-        pub gate-free : (p q c : ℕ) → r ≡ Kind.Free p q c → yes 0 ≡ gateAnswer own g
+        pub gate-fine : b ≡ false → (a : ℕ) → a ≡ charge (kindOf (g .code)) → yes a ≡ gateAnswer own g
         unfolding gateVerdict operandsHold _then_ refuse
-        gate-free p q c e = simp (le-leb _ _ x, lt-ltb _ _ y, lt-ltb _ _ z, ← is-r, e)
+        gate-fine e a is-a = simp (le-leb _ _ x, lt-ltb _ _ y, lt-ltb _ _ z, ← is-b, e, is-a)
 
-        pub gate-refused : r ≡ Kind.Refused → no (refused 7 own) ≡ gateAnswer own g
-        unfolding gateVerdict operandsHold _then_ refuse
-        gate-refused e = simp (le-leb _ _ x, lt-ltb _ _ y, lt-ltb _ _ z, ← is-r, e)
-
-pub ruleset gate-cases = (operand-low, operand-order, operand-high, gate-charged, gate-free, gate-refused)
+pub ruleset gate-cases = (operand-low, operand-order, operand-high, gate-refused, gate-fine)
 
 -- ---- read_record
 module _ (s : List ℕ) (n k : ℕ) where

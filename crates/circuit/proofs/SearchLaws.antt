@@ -4,6 +4,8 @@ use native.Mathlib.Numerals.{add-one}
 use native.Mathlib.Omega.{arith}
 use mathlib.Core.Path.{_≡_, refl, sym, ap, _∙_}
 use mathlib.Core.List.{List, [], _∷_, _++_}
+use mir.Syntax.{w64}
+use mir.Val.{Fits}
 use Rattle.model.specs.declared.Gate.{Gate}
 use Rattle.model.specs.declared.Refusal.{Refusal}
 use Rattle.model.specs.Bytes.{tabulate}
@@ -11,8 +13,8 @@ use Rattle.model.specs.Circuit.{kindOf, charge, charges, gateAt}
 use Rattle.model.specs.Refusals.{Verdict, fine, refused, verdictOf, firstOf, recordVerdict, gatesVerdict}
 use Rattle.model.specs.Operations.{Answer, no, yes}
 use Rattle.model.proofs.Lists.{tabulate-snoc}
-use Rattle.model.proofs.Circuits.{charges-snoc}
-use Rattle.model.proofs.Verdicts.{yes-given, no-turned, Turned, first-next, first-found}
+use Rattle.model.proofs.Circuits.{charge-le, charges-snoc}
+use Rattle.model.proofs.Verdicts.{Given, yes-given, no-turned, Turned, first-next, first-found}
 use Rattle.circuit.specs.Answers.{gateOf, recordAnswer, searchAnswer}
 use Rattle.circuit.specs.declared.gates.GateRead.{GateRead}
 
@@ -36,22 +38,26 @@ module _ (s : List ℕ) (n q k p : ℕ) (inv : Searching s n q k p) where
 
   module _ (r : GateRead) (is-r : gateOf r ≡ recordAnswer s n k) (more : k < q) where
     -- p′ is the count after the gate
-    turn : (a p′ : ℕ) → gateOf r ≡ yes a → a ≤ 1 → p′ ≡ p + a → Searching s n q (k + 1) p′
-    turn a p′ e small f =
-        let g = yes-given (recordVerdict s n k) a (charge (kindOf (gateAt s k .code))) (sym e ∙ is-r) in
+    fine-gate : (a : ℕ) → r ≡ GateRead.Fine a → Given (recordVerdict s n k) a (charge (kindOf (gateAt s k .code)))
+    fine-gate a e = yes-given (recordVerdict s n k) a (charge (kindOf (gateAt s k .code))) (rw e at is-r)
+
+    at-most-one : (a : ℕ) → r ≡ GateRead.Fine a → a ≤ 1
+    at-most-one a e = rw (fine-gate a e .is-result) (charge-le (kindOf (gateAt s k .code)))
+
+    pub turn-counts : n + q ≤ 65535 → (a : ℕ) → r ≡ GateRead.Fine a → Fits w64 (p + a)
+    turn-counts few a e = omega (arith, at-most-one a e, inv .at-most, more)
+
+    pub turn-fine : (a p′ : ℕ) → r ≡ GateRead.Fine a → p′ ≡ p + a → Searching s n q (k + 1) p′
+    turn-fine a p′ e f =
+        let g = fine-gate a e in
         let m = inv .at-most in
+        let small = at-most-one a e in
         record {
           within = omega arith;
           at-most = omega arith;
           no-fault = first-next _ k (inv .no-fault) (g .is-fine);
           counted = rw (add-one, tabulate-snoc k (gateAt s), charges-snoc, f, inv .counted, g .is-result);
         }
-
-    pub turn-charged : (p′ : ℕ) → r ≡ GateRead.Charged → p′ ≡ p + 1 → Searching s n q (k + 1) p′
-    turn-charged p′ e f = turn 1 p′ (ap gateOf e) (omega arith) f
-
-    pub turn-free : (p′ : ℕ) → r ≡ GateRead.Free → p′ ≡ p → Searching s n q (k + 1) p′
-    turn-free p′ e f = turn 0 p′ (ap gateOf e) (omega arith) (omega arith)
 
     pub turn-fault : (f : Refusal) → r ≡ GateRead.Fault f → no (verdictOf f) ≡ searchAnswer s n q
     turn-fault f e = go (no-turned (recordVerdict s n k) (verdictOf f) _ (rw e at is-r))

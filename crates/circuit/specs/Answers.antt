@@ -37,8 +37,7 @@ headerAnswer s = answer (headVerdict s) (record { n = inputs s; m = outputs s; q
 -- ---- the gates: a gate without a fault adds its charge to p
 
 abbrev pub gateOf : GateRead → Answer ℕ
-gateOf GateRead.Charged = yes 1
-gateOf GateRead.Free = yes 0
+gateOf (GateRead.Fine x) = yes x
 gateOf (GateRead.Fault f) = no (verdictOf f)
 
 abbrev pub gateAnswer : ℕ → Gate → Answer ℕ

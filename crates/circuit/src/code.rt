@@ -1,7 +1,8 @@
 // What a code means: its kind, and its value for two truth values.
 ghost use mathlib.Core.Path.{_≡_};
 ghost use Prim.Native.Nat.{_≤_};
-ghost use Rattle.model.specs.Circuit.{value, kindOf};
+ghost use Rattle.model.specs.Circuit.{value, kindOf, charge};
+ghost use Rattle.model.specs.Refusals.{isRefused};
 ghost use Rattle.circuit.specs.Answers.{meaning};
 use model::Kind;
 use model::Truth;
@@ -23,6 +24,27 @@ pub fn code_kind(code: u8) -> Kind
         14 => Kind::Charged(Truth(0), Truth(0), Truth(0)),
         _ => Kind::Refused,
     }
+}
+
+// What a code adds to p: bit c of the constant is 1 if code c is charged. Codes come in any order, so that a branch on each would
+// cost more than this.
+pub fn code_charge(code: u8) -> usize
+    ensures { λ r. ⌜ r ≡ charge (kindOf code) ⌝ }
+{
+    if 15 < code {
+        return 0;
+    }
+    ((0x6996u32 >> (code as u32)) % 2) as usize
+}
+
+// Whether a code is refused: bit c of the constant is 1 if code c is charged or free.
+pub fn code_refused(code: u8) -> bool
+    ensures { λ r. ⌜ r ≡ isRefused (kindOf code) ⌝ }
+{
+    if 15 < code {
+        return true;
+    }
+    (0x6BD6u32 >> (code as u32)) % 2 == 0
 }
 
 // Bit 2u+v of the code (01, Circuit).

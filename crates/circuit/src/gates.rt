@@ -4,17 +4,16 @@ ghost use Prim.Native.Nat.{_+_, _*_, _≤_, _<_};
 ghost use lib.ListN.{length};
 ghost use Rattle.model.specs.Circuit.{gateAt};
 ghost use Rattle.circuit.specs.Answers.{gateOf, gateAnswer, recordAnswer, searchOf, searchAnswer};
-use crate::code::code_kind;
+use crate::code::code_charge;
+use crate::code::code_refused;
 use buffer::read16;
 use model::Gate;
-use model::Kind;
 use model::Refusal;
 use model::Wire;
 
 // What one gate is found to be.
 pub enum GateRead {
-    Charged,
-    Free,
+    Fine(usize), // what it adds to p
     Fault(Refusal),
 }
 
@@ -52,11 +51,10 @@ pub fn read_gate(own: Wire, g: Gate) -> GateRead
     if own.0 <= g.b {
         return GateRead::Fault(Refusal::Operands(own));
     }
-    match code_kind(g.code) {
-        Kind::Charged(_, _, _) => GateRead::Charged,
-        Kind::Free { p: _, q: _, c: _ } => GateRead::Free,
-        Kind::Refused => GateRead::Fault(Refusal::Code(own)),
+    if code_refused(g.code) {
+        return GateRead::Fault(Refusal::Code(own));
     }
+    GateRead::Fine(code_charge(g.code))
 }
 
 // Refusals 5 to 7 of gate record k, in a circuit of n inputs.
@@ -88,10 +86,9 @@ pub fn search_gates(circuit: &[u8], n: usize, q: usize) -> Searched
             break Searched::Clean(p);
         }
         match read_record(circuit, n, k) {
-            GateRead::Charged => {
-                p += 1;
+            GateRead::Fine(x) => {
+                p += x;
             }
-            GateRead::Free => {}
             GateRead::Fault(f) => {
                 break Searched::Fault(f);
             }

@@ -8,6 +8,8 @@ use mathlib.Core.List.{List}
 use borrow.Author.Tests.{le-leb, lt-leb, lt-ltb, le-ltb, eq-eqb, ne-eqb, not-true, not-false}
 use lib.Dec.{leb}
 use lib.ListN.{length, getD}
+use mir.Syntax.{w64}
+use mir.Val.{Fits}
 use Rattle.model.specs.declared.Gate.{Gate}
 use Rattle.model.specs.declared.Sizes.{Sizes}
 use Rattle.model.specs.declared.Refusal.{Refusal}
@@ -23,8 +25,8 @@ use Rattle.model.specs.Material.{rowsStored}
 use Rattle.model.specs.Refusals.{Verdict, fine, refused, refuse, _then_, firstOf, numberOf, placeOf, verdictOf, headVerdict, gateVerdict, recordVerdict, gatesVerdict, circuitVerdict, tokensVerdict, materialVerdict, roomVerdict, isCharged, rowStart, rowRecordAt, rowVerdict}
 use Rattle.model.specs.Operations.{no, yes, answer, sizesOf, ranOf, evaluatedOf, evaluateVerdict, evaluateCallsOf, EvaluateIs}
 use Rattle.model.proofs.Lists.{tabulate-snoc}
-use Rattle.model.proofs.Circuits.{charges-snoc}
-use Rattle.model.proofs.Verdicts.{then-fine, yes-given, Turned, no-turned, first-next, first-found}
+use Rattle.model.proofs.Circuits.{charge-le, charges-snoc}
+use Rattle.model.proofs.Verdicts.{then-fine, Given, yes-given, Turned, no-turned, first-next, first-found}
 use Rattle.circuit.specs.declared.gates.GateRead.{GateRead}
 use Rattle.circuit.specs.declared.values.Ready.{Ready}
 use Rattle.circuit.specs.Answers.{gateOf, gateAnswer}
@@ -223,33 +225,45 @@ module _ (ts s : List ℕ) (w : Walk) (g : Gate) (found : GateRead) (is-found : 
   unfolding recordVerdict refuse _then_
   at-record c is e = rw (is .mark, ← is .is-g, e)
 
+  fine-gate : (x : ℕ) → found ≡ GateRead.Fine x → Given (gateVerdict (w .z .n + w .k + 1) g) x (charge (kindOf (g .code)))
+  fine-gate x e = yes-given (gateVerdict (w .z .n + w .k + 1) g) x (charge (kindOf (g .code))) (rw e at is-found)
+
+  at-most-one : (x : ℕ) → found ≡ GateRead.Fine x → x ≤ 1
+  at-most-one x e = rw (fine-gate x e .is-result) (charge-le (kindOf (g .code)))
+
+  -- the count with its charge
+  abbrev counted : ℕ → Sizes
+  counted x = record { n = w .z .n; m = w .z .m; q = w .z .q; p = w .z .p + x }
+
+  pub try-counts : Few (w .k) (w .z) (w .k) → (x : ℕ) → found ≡ GateRead.Fine x → Fits w64 (w .z .p + x)
+  try-counts few x e = omega (arith, at-most-one x e, few .charged-few, few .more, few .wires)
+
+  pub try-few : Few (w .k) (w .z) (w .k) → (x : ℕ) → found ≡ GateRead.Fine x → Few (w .k) (counted x) (w .k + 1)
+  try-few few x e = record {
+    more = few .more;
+    wires = few .wires;
+    outputs-few = few .outputs-few;
+    charged-few = omega (arith, at-most-one x e, few .charged-few);
+  }
+
   -- without a fault, it adds its charge
-  module _ (r : Walk) (z : Sizes) (same : (z .n ≡ w .z .n) × (z .m ≡ w .z .m) × (z .q ≡ w .z .q)) (x : ℕ) (is-yes : gateOf found ≡ yes x)
-      (adds : z .p ≡ w .z .p + x) (next : TriedLeads ts s (w .k) z r) where
-    goes-on : TryLeads ts s w g r
-    goes-on = record {
-      leads = λ c o d left h is t.
-          let v = yes-given (gateVerdict (w .z .n + w .k + 1) g) x (charge (kindOf (g .code))) (sym is-yes ∙ is-found) in
-          next .leads c o d left
-          (record {
-            head = t .head;
-            is-n = same .0 ∙ t .is-n;
-            is-m = same .1 ∙ t .is-m;
-            is-q = same .2 ∙ t .is-q;
-            within = omega arith;
-            no-fault = first-next _ (w .k) (t .no-fault) (at-record c is (t .is-n) ∙ v .is-fine);
-            counted = rw (add-one, tabulate-snoc (w .k) (gateAt c), charges-snoc, ← is .is-g, ← t .counted, ← v .is-result) adds;
-            untouched = t .untouched;
-            turns = omega (arith, t .turns);
-          });
-    }
-
-  pub try-charged : found ≡ GateRead.Charged → (r : Walk) → TriedLeads ts s (w .k) (record { n = w .z .n; m = w .z .m; q = w .z .q; p = w .z .p + 1 }) r
-      → TryLeads ts s w g r
-  try-charged e r next = goes-on r _ (refl, refl, refl) 1 (rw e) refl next
-
-  pub try-free : found ≡ GateRead.Free → (r : Walk) → TriedLeads ts s (w .k) (w .z) r → TryLeads ts s w g r
-  try-free e r next = goes-on r (w .z) (refl, refl, refl) 0 (rw e) (omega arith) next
+  pub try-fine : (x : ℕ) → found ≡ GateRead.Fine x → (r : Walk) → TriedLeads ts s (w .k) (counted x) r → TryLeads ts s w g r
+  try-fine x e r next = record {
+    leads = λ c o d left h is t.
+        let v = fine-gate x e in
+        next .leads c o d left
+        (record {
+          head = t .head;
+          is-n = t .is-n;
+          is-m = t .is-m;
+          is-q = t .is-q;
+          within = omega arith;
+          no-fault = first-next _ (w .k) (t .no-fault) (at-record c is (t .is-n) ∙ v .is-fine);
+          counted = rw (add-one, tabulate-snoc (w .k) (gateAt c), charges-snoc, ← is .is-g, ← t .counted, ← v .is-result);
+          untouched = t .untouched;
+          turns = omega (arith, t .turns);
+        });
+  }
 
   pub try-fault : (f : Refusal) → found ≡ GateRead.Fault f → (r : Walk) → Ended (Evaluated.Refused f) r → TryLeads ts s w g r
   try-fault f e r is-r = record { leads = λ c o d left h is t. refuses c ts s o left r d f is-r (t .untouched) (verdict c o d left h is t) }
@@ -261,7 +275,7 @@ module _ (ts s : List ℕ) (w : Walk) (g : Gate) (found : GateRead) (is-found : 
           let k : recordVerdict c (inputs c) (w .k) ≡ refused (v .number) (v .place) = at-record c is (t .is-n) ∙ v .is-v in
           by-gate c ts s (length o) (w .k) (v .number) (v .place) (t .head) (t .no-fault) h k ∙ sym (v .is-w)
 
-pub ruleset try-cases = (try-charged, try-free, try-fault)
+pub ruleset try-cases = (try-counts, try-few, try-fine, try-fault)
 
 -- ---- record_checked
 

@@ -121,16 +121,17 @@ fn try_gate(s: Walk, g: Gate, tokens: &[u8], material: &[u8]) -> Walk
     let k = s.k;
     let z = s.z;
     let n = z.n;
-    let m = z.m;
-    let q = z.q;
-    let p = z.p;
     let own = Wire((n + k + 1) as u16);
     match read_gate(own, g) {
-        GateRead::Charged => {
-            let more = Sizes { n, m, q, p: p + 1 };
-            gate_tried(k, more, tokens, material)
+        GateRead::Fine(x) => {
+            let counted = Sizes {
+                n,
+                m: z.m,
+                q: z.q,
+                p: z.p + x,
+            };
+            gate_tried(k, counted, tokens, material)
         }
-        GateRead::Free => gate_tried(k, z, tokens, material),
         GateRead::Fault(f) => ended(Evaluated::Refused(f)),
     }
 }

@@ -15,7 +15,7 @@ unfolding charges
 charges-snoc [] g = omega arith
 charges-snoc (x ∷ gs) g = omega (arith, charges-snoc gs g)
 
-charge-le : (k : Kind) → charge k ≤ 1
+pub charge-le : (k : Kind) → charge k ≤ 1
 charge-le (charged u v x) = omega arith
 charge-le (free p q c) = omega arith
 charge-le refused = omega arith
