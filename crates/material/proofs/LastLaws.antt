@@ -1,17 +1,23 @@
--- The last record: its bytes searched as a list of values, and a law for each return of `check_last`. Assumes nothing.
+-- The last record: its bytes searched as a list of values, and a law for each return of `check_last_bytes` and `check_last`. Assumes nothing.
 use Prim.Native.Nat.{ℕ, zero, suc, _+_, _-_, _≤_}
 use native.Mathlib.Omega.{arith}
 use mathlib.Core.Path.{_≡_, refl, sym, _∙_}
-use mathlib.Core.Bool.{Bool, true, false, not}
+use mathlib.Core.Bool.{Bool, true, false}
 use mathlib.Core.List.{List}
 use lib.Dec.{ltb}
 use lib.ListN.{length, getD, take, drop, length-take, length-drop}
 use lib.Seq.{getD-take, getD-drop}
+use Rattle.model.specs.declared.Wire.{Wire}
+use Rattle.model.specs.declared.Ran.{Ran}
 use Rattle.model.specs.Circuit.{markAt}
 use Rattle.model.specs.Refusals.{Verdict, fine, refused, refuse, _then_, firstOf, valueVerdict, bitsVerdict}
+use Rattle.model.specs.Operations.{ranOf}
 use Rattle.circuit.specs.Answers.{bitsOf}
 use Rattle.circuit.specs.declared.values.Bits.{Bits}
-use Rattle.material.specs.Answers.{lastAt}
+use Rattle.material.specs.declared.reader.Standing.{Standing}
+use Rattle.material.specs.Reader.{standingAt}
+use Rattle.material.specs.Answers.{lastBytesAt, lastAt}
+use Rattle.material.proofs.ReaderLaws.{isLast, last-record}
 
 -- the same, with 18 at a place for whatever refuses
 abbrev as18 : ℕ → Verdict → Verdict
@@ -44,25 +50,42 @@ module _ (s : List ℕ) (start m : ℕ) where
       let e : getD bytes k 0 ≡ getD s (start + 2 + k) 0 = getD-take (start + 2 + m - (start + 2)) _ k 0 (omega arith) ∙ getD-drop (start + 2) s k 0 in
       rw (bytes-first k (omega arith), as18-refuse start _ 10 k, ← e) (as18-then start _ _)
 
-  -- the mark as it was tried
-  module _ (b : Bool) (is-b : b ≡ markAt s start 0x47 0x44) where
-    pub last-mark : not b ≡ true → refused 18 start ≡ lastAt s start m
+  -- ---- check_last_bytes: the bytes as they were searched
+  module _ (fits : start + 2 + m ≤ length s) (t : Bits) (is-t : bitsOf t ≡ bitsVerdict bytes) where
+    many : length bytes ≡ m
+    many = simp (length-take, length-drop) (omega arith)
+
+    searched : as18 start (bitsOf t) ≡ lastBytesAt s start m
+    searched = rw (is-t, many) (sym (bytes-first m (omega arith)))
+
+    pub bytes-fine : t ≡ Bits.Fine → fine ≡ lastBytesAt s start m
+    bytes-fine e = rw e at searched
+
+    pub bytes-fault : (i : ℕ) → t ≡ Bits.Fault i → refused 18 start ≡ lastBytesAt s start m
+    bytes-fault i e = rw e at searched
+
+  -- ---- check_last: what the reader found
+  module _ (fits : start + 2 + m ≤ length s) (x : Standing) (is-x : x ≡ standingAt s start) where
+    mark : isLast x ≡ markAt s start 0x47 0x44
+    mark = rw is-x (last-record s start (omega arith))
+
+    wrong : isLast x ≡ false → refused 18 start ≡ lastAt s start m
     unfolding lastAt _then_ refuse
-    last-mark h = simp (← is-b, h)
+    wrong h = simp (← mark, h)
 
-    -- the bytes as they were searched
-    module _ (h : not b ≡ false) (fits : start + 2 + m ≤ length s) (t : Bits) (is-t : bitsOf t ≡ bitsVerdict bytes) where
-      many : length bytes ≡ m
-      many = simp (length-take, length-drop) (omega arith)
+    pub last-gate : (w : Wire) → x ≡ Standing.Gate w → refused 18 start ≡ lastAt s start m
+    last-gate w e = wrong (rw e)
 
-      rest : as18 start (bitsOf t) ≡ lastAt s start m
-      unfolding lastAt _then_ refuse
-      rest = simp (← is-b, h) (rw (is-t, many) (sym (bytes-first m (omega arith))))
+    pub last-cut : (w : Wire) → x ≡ Standing.Cut w → refused 18 start ≡ lastAt s start m
+    last-cut w e = wrong (rw e)
 
-      pub last-fine : t ≡ Bits.Fine → fine ≡ lastAt s start m
-      last-fine e = rw e at rest
+    pub last-nothing : x ≡ Standing.Nothing → refused 18 start ≡ lastAt s start m
+    last-nothing e = wrong (rw e)
 
-      pub last-byte : (i : ℕ) → t ≡ Bits.Fault i → refused 18 start ≡ lastAt s start m
-      last-byte i e = rw e at rest
+    pub last-marked : x ≡ Standing.Last → (r : Ran) → ranOf r ≡ lastBytesAt s start m → ranOf r ≡ lastAt s start m
+    unfolding lastAt _then_ refuse
+    last-marked e r is-r = let h : true ≡ markAt s start 0x47 0x44 = rw e at mark in is-r ∙ simp (← h)
 
-pub ruleset last-cases = (last-mark, last-fine, last-byte)
+pub ruleset bytes-cases = (bytes-fine, bytes-fault)
+
+pub ruleset last-cases = (last-gate, last-cut, last-nothing, last-marked)

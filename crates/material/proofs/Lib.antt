@@ -1,8 +1,10 @@
--- Laws of the functions.
+-- Laws of the functions, and what walks by hand share.
 pub mod LengthLaws
 pub mod SizeLaws
 pub mod FileLaws
 pub mod RowLaws
+pub mod ReaderLaws
+pub mod ReaderWalk
 pub mod RecordLaws
 pub mod LastLaws
 pub mod MaterialLaws

@@ -1,18 +1,19 @@
--- The row records: a law for each return of `next` and `pass_gate`, and the turns and ends of the way over the gates. Assumes nothing.
+-- The row records: a law for each return of `past_if`, `next` and `pass_gate`, and the turns and ends of the way over the gates. Assumes nothing.
 use Prim.Native.Nat.{ℕ, _+_, _*_, _≤_, _<_}
 use native.Mathlib.Omega.{arith}
 use mathlib.Core.Path.{_≡_, refl, sym, ap, _∙_}
-use mathlib.Core.Bool.{Bool, true, false, not, _&&_}
+use mathlib.Core.Bool.{false, not, _&&_}
 use mathlib.Core.List.{List}
-use borrow.Author.Tests.{eq-eqb, ne-eqb, not-true, not-false}
+use borrow.Author.Tests.{eq-eqb, ne-eqb}
 use lib.ListN.{length, getD}
+use lib.Dec.{eqb}
 use Rattle.model.specs.declared.Gate.{Gate}
 use Rattle.model.specs.declared.Truth.{Truth}
 use Rattle.model.specs.declared.Kind.{Kind}
 use Rattle.model.specs.declared.Sizes.{Sizes}
 use Rattle.model.specs.declared.Refusal.{Refusal}
-use Rattle.model.specs.Bytes.{be16}
-use Rattle.model.specs.Circuit.{circuitOf, gates, gateAt, codeAt, kindOf, charge, markAt}
+use Rattle.model.specs.declared.Wire.{Wire}
+use Rattle.model.specs.Circuit.{circuitOf, gates, gateAt, codeAt, kindOf, charge}
 use Rattle.model.specs.Material.{rowsStored}
 use Rattle.model.specs.Refusals.{fine, refused, refuse, verdictOf, firstOf, isCharged, rowStart, rowRecordAt, rowVerdict}
 use Rattle.model.specs.Operations.{no, yes}
@@ -20,26 +21,49 @@ use Rattle.model.proofs.Verdicts.{yes-given, Turned, no-turned, first-next, fir
 use Rattle.circuit.specs.Answers.{meaning}
 use Rattle.material.specs.declared.records.Cursor.{Cursor}
 use Rattle.material.specs.declared.records.Step.{Step}
-use Rattle.material.specs.Answers.{Filed, AtGate, stepOf, nextAnswer, passAnswer, gateAnswer, recordsVerdict}
+use Rattle.material.specs.declared.reader.Standing.{Standing}
+use Rattle.material.specs.Reader.{standingAt}
+use Rattle.material.specs.Answers.{Filed, AtGate, stepOf, dueAnswer, nextAnswer, passAnswer, gateAnswer, recordsVerdict}
 use Rattle.material.proofs.SizeLaws.{inputs-same, code-at, limits, is-n, is-q, few-wires}
+use Rattle.material.proofs.ReaderLaws.{isOf, row-record}
 use Rattle.material.proofs.RowLaws.{row-first, row-next, row-room, file-holds}
 
--- ---- next: the wire number and the mark as they were read
-module _ (s : List ℕ) (at rows due found : ℕ) (is-found : found ≡ be16 s (at + 2)) (b : Bool) (is-b : b ≡ markAt s at 0x47 0x54) where
-  pub next-mark : not b ≡ true → no (refused 17 due) ≡ nextAnswer s at rows due
-  unfolding rowRecordAt refuse
-  next-mark h = simp (← is-b, not-true b h)
+-- ---- past_if
+module _ (at rows found due : ℕ) where
+  pub due-other : (found ≡ due → ⊥) → no (refused 17 due) ≡ dueAnswer at rows found due
+  unfolding refuse
+  due-other h = simp (ne-eqb _ _ h)
 
-  module _ (i : not b ≡ false) where
-    pub next-wire : (found ≡ due → ⊥) → no (refused 17 due) ≡ nextAnswer s at rows due
-    unfolding rowRecordAt refuse
-    next-wire h = simp (← is-b, not-false b i, ← is-found, ne-eqb _ _ h)
+  pub due-found : found ≡ due → (there : ℕ) → there ≡ at + 4 + 16 * rows → yes there ≡ dueAnswer at rows found due
+  unfolding refuse
+  due-found h there e = simp (eq-eqb _ _ h, e)
 
-    pub next-fine : found ≡ due → (there : ℕ) → there ≡ at + 4 + 16 * rows → yes there ≡ nextAnswer s at rows due
-    unfolding rowRecordAt refuse
-    next-fine h there e = simp (← is-b, not-false b i, ← is-found, eq-eqb _ _ h, e)
+pub ruleset due-cases = (due-other, due-found)
 
-pub ruleset next-cases = (next-mark, next-wire, next-fine)
+-- ---- next: what the reader found
+module _ (s : List ℕ) (at rows due : ℕ) (room : at + 4 + 16 * rows ≤ length s) (x : Standing) (is-x : x ≡ standingAt s at) where
+  -- whether it is a gate's with the wire number due is what 17 asks
+  right : isOf due x ≡ rowRecordAt s at due
+  right = rw is-x (row-record s at due (omega arith))
+
+  wrong : isOf due x ≡ false → no (refused 17 due) ≡ nextAnswer s at rows due
+  unfolding refuse
+  wrong h = simp (← right, h)
+
+  pub next-last : x ≡ Standing.Last → no (refused 17 due) ≡ nextAnswer s at rows due
+  next-last e = wrong (rw e)
+
+  pub next-nothing : x ≡ Standing.Nothing → no (refused 17 due) ≡ nextAnswer s at rows due
+  next-nothing e = wrong (rw e)
+
+  module _ (w : Wire) (r : Step) (is-r : stepOf r ≡ dueAnswer at rows (w .0) due) where
+    pub next-gate : x ≡ Standing.Gate w → stepOf r ≡ nextAnswer s at rows due
+    next-gate e = let h : eqb (w .0) due ≡ rowRecordAt s at due = rw e at right in is-r ∙ rw h
+
+    pub next-cut : x ≡ Standing.Cut w → stepOf r ≡ nextAnswer s at rows due
+    next-cut e = let h : eqb (w .0) due ≡ rowRecordAt s at due = rw e at right in is-r ∙ rw h
+
+pub ruleset next-cases = (next-last, next-nothing, next-gate, next-cut)
 
 -- ---- pass_gate: the code's kind as it was read
 module _ (s : List ℕ) (at rows code due : ℕ) (kind : Kind) (is-kind : meaning kind ≡ kindOf code) where

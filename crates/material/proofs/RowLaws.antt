@@ -9,16 +9,13 @@ use borrow.Author.Tests.{ltb-false, leb-true, eqb-true, not-false}
 use lib.ListN.{length, getD}
 use Rattle.model.specs.Bytes.{tabulate}
 use Rattle.model.specs.Circuit.{circuitOf, outputs, gates, gateAt, kindOf, charge, charges}
-use Rattle.model.specs.Material.{rowsStored, materialLength}
+use Rattle.model.specs.Material.{materialLength}
 use Rattle.model.specs.Refusals.{fine, schemeVerdict, fileVerdict, rowStart}
 use Rattle.model.proofs.Lists.{tabulate-snoc, tabulate-take}
 use Rattle.model.proofs.Circuits.{charges-snoc, charges-among}
 use Rattle.model.proofs.Verdicts.{then-fine, refuse-fine, and-both}
+use Rattle.material.specs.Reader.{recordBytes}
 use Rattle.material.proofs.SizeLaws.{outputs-many}
-
--- the bytes of a row record: mark and wire number, and the rows of the material's scheme
-abbrev pub recordBytes : List ℕ → ℕ
-recordBytes s = 4 + 16 * rowsStored (getD s 2 0)
 
 -- ---- the records, one for each charged gate
 module _ (c s : List ℕ) where

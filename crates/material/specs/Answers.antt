@@ -42,6 +42,10 @@ abbrev pub stepOf : Step → Answer ℕ
 stepOf (Step.Next there) = yes (there .at)
 stepOf (Step.Fault f) = no (verdictOf f)
 
+-- past a record of this many rows at an index that has a wire number, where one is due
+abbrev pub dueAnswer : ℕ → ℕ → ℕ → ℕ → Answer ℕ
+dueAnswer at rows found due = answer (refuse (not (eqb found due)) 17 due) (at + 4 + 16 * rows)
+
 -- past a record of this many rows at an index, which is due for a wire
 abbrev pub nextAnswer : List ℕ → ℕ → ℕ → ℕ → Answer ℕ
 nextAnswer s at rows due = answer (refuse (not (rowRecordAt s at due)) 17 due) (at + 4 + 16 * rows)
@@ -68,7 +72,10 @@ abbrev pub recordsVerdict : List ℕ → List ℕ → Verdict
 recordsVerdict c s = firstOf (rowVerdict (circuitOf c) s) (gates c)
 
 -- ---- 18 of a last record that starts at an index and has m bytes
+
+-- of its bytes
+abbrev pub lastBytesAt : List ℕ → ℕ → ℕ → Verdict
+lastBytesAt s start m = firstOf (λ i. refuse (ltb 1 (getD s (start + 2 + i) 0)) 18 start) m
+
 unfoldable pub lastAt : List ℕ → ℕ → ℕ → Verdict
-lastAt s start m =
-    refuse (not (markAt s start 0x47 0x44)) 18 start
-    then firstOf (λ i. refuse (ltb 1 (getD s (start + 2 + i) 0)) 18 start) m
+lastAt s start m = refuse (not (markAt s start 0x47 0x44)) 18 start then lastBytesAt s start m

@@ -3,12 +3,26 @@ ghost use mathlib.Core.Path.{_≡_};
 ghost use Prim.Native.Nat.{_+_, _≤_};
 ghost use lib.ListN.{length};
 ghost use Rattle.model.specs.Operations.{ranOf};
-ghost use Rattle.material.specs.Answers.{lastAt};
-use crate::marks::mark_at;
+ghost use Rattle.material.specs.Answers.{lastBytesAt, lastAt};
+use crate::reader::Standing;
+use crate::reader::found_at;
 use circuit::values::Bits;
 use circuit::values::search_values;
 use model::Ran;
 use model::Refusal;
+
+// Refusal 18 of the m bytes after the mark of a record that starts at an index: one of them exceeds 1.
+fn check_last_bytes(material: &[u8], m: usize, start: usize) -> Ran
+    requires { ⌜ start + 2 + m ≤ length (now material) ⌝ }
+    ensures { λ r. ⌜ ranOf r ≡ lastBytesAt (now (material .entry)) start m ⌝ }
+{
+    let bytes = start + 2;
+    let end = bytes + m;
+    match search_values(&material[bytes..end]) {
+        Bits::Fine => Ran::Done,
+        Bits::Fault(_) => Ran::Refused(Refusal::LastRecord(start)),
+    }
+}
 
 // Refusal 18 of the record that starts at an index: its mark is not 47 44, or one of its m bytes exceeds 1. Its start is
 // the place either way.
@@ -16,13 +30,10 @@ pub fn check_last(material: &[u8], m: usize, start: usize) -> Ran
     requires { ⌜ start + 2 + m ≤ length (now material) ⌝ }
     ensures { λ r. ⌜ ranOf r ≡ lastAt (now (material .entry)) start m ⌝ }
 {
-    if !mark_at(material, start, 0x47, 0x44) {
-        return Ran::Refused(Refusal::LastRecord(start));
-    }
-    let bytes = start + 2;
-    let end = bytes + m;
-    match search_values(&material[bytes..end]) {
-        Bits::Fine => Ran::Done,
-        Bits::Fault(_) => Ran::Refused(Refusal::LastRecord(start)),
+    match found_at(material, start) {
+        Standing::Gate(_) => Ran::Refused(Refusal::LastRecord(start)),
+        Standing::Cut(_) => Ran::Refused(Refusal::LastRecord(start)),
+        Standing::Last => check_last_bytes(material, m, start),
+        Standing::Nothing => Ran::Refused(Refusal::LastRecord(start)),
     }
 }

@@ -15,6 +15,7 @@ use model::Sizes;
 pub mod file;
 pub mod last;
 pub mod marks;
+pub mod reader;
 pub mod records;
 pub mod writers;
 

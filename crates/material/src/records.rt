@@ -4,10 +4,10 @@ ghost use Prim.Native.Nat.{_+_, _*_, _≤_, _<_};
 ghost use lib.ListN.{length};
 ghost use Rattle.model.specs.Circuit.{kindOf, charge};
 ghost use Rattle.model.specs.Operations.{ranOf};
-ghost use Rattle.material.specs.Answers.{Filed, AtGate, stepOf, nextAnswer, passAnswer, gateAnswer, recordsVerdict};
-use crate::marks::mark_at;
+ghost use Rattle.material.specs.Answers.{Filed, AtGate, stepOf, dueAnswer, nextAnswer, passAnswer, gateAnswer, recordsVerdict};
+use crate::reader::Standing;
+use crate::reader::found_at;
 use crate::rows_stored;
-use buffer::read16;
 use circuit::code::code_kind;
 use circuit::gates::gate_at;
 use model::Kind;
@@ -45,20 +45,29 @@ impl Cursor {
         }
     }
 
-    // Past the row record here, if it has the mark 47 54 and the wire number that is due.
-    pub fn next(self, material: &[u8], rows: usize, due: Wire) -> Step
-        requires { ⌜ self .at + 4 + 16 * rows ≤ length (now material) ⌝ }
-        ensures { λ r. ⌜ stepOf r ≡ nextAnswer (now (material .entry)) (self .at) rows (due .0) ⌝ }
+    // Past a row record of this wire number, if it is the one that is due.
+    fn past_if(self, rows: usize, found: Wire, due: Wire) -> Step
+        requires { ⌜ self .at + 4 + 16 * rows < 18446744073709551616 ⌝ }
+        ensures { λ r. ⌜ stepOf r ≡ dueAnswer (self .at) rows (found .0) (due .0) ⌝ }
     {
-        let at = self.at;
-        let found = Wire(read16(material, at + 2));
-        if !mark_at(material, at, 0x47, 0x54) {
-            return Step::Fault(Refusal::RowRecord(due));
-        }
         if found.0 == due.0 {
             Step::Next(self.past(rows))
         } else {
             Step::Fault(Refusal::RowRecord(due))
+        }
+    }
+
+    // Past the row record here, if it has the mark 47 54 and the wire number that is due. That its rows lie within the material
+    // is asked of the caller, for as many as it names.
+    pub fn next(self, material: &[u8], rows: usize, due: Wire) -> Step
+        requires { ⌜ self .at + 4 + 16 * rows ≤ length (now material) ⌝ }
+        ensures { λ r. ⌜ stepOf r ≡ nextAnswer (now (material .entry)) (self .at) rows (due .0) ⌝ }
+    {
+        match found_at(material, self.at) {
+            Standing::Gate(found) => self.past_if(rows, found, due),
+            Standing::Cut(found) => self.past_if(rows, found, due),
+            Standing::Last => Step::Fault(Refusal::RowRecord(due)),
+            Standing::Nothing => Step::Fault(Refusal::RowRecord(due)),
         }
     }
 }

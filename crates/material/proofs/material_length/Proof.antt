@@ -1,7 +1,6 @@
 use borrow.Author.Needs.{needs}
 use native.Mathlib.Omega.{arith}
-use Rattle.model.specs.Material.{materialLength}
-use Rattle.material.proofs.LengthLaws.{records-fit}
+use Rattle.material.proofs.LengthLaws.{records-fit, length-made}
 use Rattle.material.proofs.material_length.Statement.{statement}
 use Rattle.material.proofs.material_length.Tie as tie
 
@@ -12,8 +11,9 @@ add-result-3 : tie.Need-add-result-3
 add-result-3 c = omega (arith, records-fit (c .before .args .p) (c .rows-stored .result) (search needs) (search needs))
 
 returns : tie.Need-returns
-unfolding materialLength
-returns c = cc
+returns c =
+    length-made (c .before .args .scheme) (c .before .args .m) (c .before .args .p) (c .rows-stored .result)
+    (c .rows-stored .ensures .0)
 
 pub material-length-spec : {M : Type 1} → statement M
 material-length-spec =

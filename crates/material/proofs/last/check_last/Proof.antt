@@ -6,6 +6,6 @@ use Rattle.material.proofs.last.check_last.Tie as tie
 pub check-last-spec : {M : Type 1} → statement M
 check-last-spec =
     tie.close
-    (tie.spec (λ c κs. search needs) (λ c. search last-cases) (λ c. search needs) (λ c. search needs)
-    (λ c. search needs) (λ c. search needs) (λ c. search needs) (λ c κs. search needs) (λ c. search needs)
-    (λ c. search needs) (λ c. search last-cases) (λ c. search last-cases))
+    (tie.spec (λ c κs. search needs) (λ c. search needs) (λ c. search needs) (λ c. search needs)
+    (λ c κs. search needs) (λ c. search needs) (λ c. search last-cases) (λ c. search last-cases)
+    (λ c. search last-cases) (λ c. search last-cases))
