@@ -1,5 +1,5 @@
 -- Laws that the proofs of the functions cite.
 pub mod Fill
 mod Number
-mod Double
+pub mod Words
 mod Buffer

@@ -1,9 +1,12 @@
 // Blocks, doubling and colours (01, AES and doubling; Tokens), and blocks in lent buffers.
+mod halves; // a block as a number in two words
+
+pub use halves::Halves;
 use model::Colour;
 ghost use mathlib.Core.Path.{_≡_};
 ghost use Prim.Native.Nat.{_+_, _*_, _≤_};
 ghost use lib.ListN.{length, take, drop};
-ghost use Rattle.model.specs.Bytes.{number, put};
+ghost use Rattle.model.specs.Bytes.{put};
 ghost use Rattle.model.specs.Aes.{_⊕_, block, double, quadruple};
 ghost use Rattle.model.specs.Tokens.{colour, coloured};
 
@@ -17,39 +20,14 @@ impl Block {
     pub fn of_number(k: u64) -> Block
         ensures { λ r. ⌜ r .bytes ≡ block k ⌝ }
     {
-        Block {
-            bytes: [
-                0,
-                0,
-                0,
-                0,
-                0,
-                0,
-                0,
-                0,
-                ((k >> 56) % 256) as u8,
-                ((k >> 48) % 256) as u8,
-                ((k >> 40) % 256) as u8,
-                ((k >> 32) % 256) as u8,
-                ((k >> 24) % 256) as u8,
-                ((k >> 16) % 256) as u8,
-                ((k >> 8) % 256) as u8,
-                (k % 256) as u8,
-            ],
-        }
+        Halves { high: 0, low: k }.block()
     }
 
     // ⊕, "exclusive or".
     pub fn xor(self, other: Block) -> Block
         ensures { λ r. ⌜ r .bytes ≡ self .bytes ⊕ other .bytes ⌝ }
     {
-        let a = self.bytes;
-        let b = other.bytes;
-        let mut x = [0u8; 16];
-        for i in 0..16 {
-            x[i] = a[i] ^ b[i];
-        }
-        Block { bytes: x }
+        Halves::of_block(self).xor(Halves::of_block(other)).block()
     }
 
     // The colour of a token is "the lowest bit of its last byte" (01, Tokens).
@@ -68,34 +46,18 @@ impl Block {
         Block { bytes: x }
     }
 
-    // "shifted left by one bit as one 128-bit number"; the bit shifted out is lost.
-    fn shifted(self) -> Block
-        ensures { λ r. ⌜ r .bytes ≡ block (number (self .bytes) * 2) ⌝ }
-    {
-        let a = self.bytes;
-        let mut x = [0u8; 16];
-        for i in 0..15 {
-            x[i] = (a[i] << 1) | (a[i + 1] >> 7);
-        }
-        x[15] = a[15] << 1;
-        Block { bytes: x }
-    }
-
-    // 2A: the shifted block, "with hex 87 exclusive-ored into the last byte exactly if the bit shifted out was 1"
+    // 2A.
     pub fn doubled(self) -> Block
         ensures { λ r. ⌜ r .bytes ≡ double (self .bytes) ⌝ }
     {
-        let out = self.bytes[0] >> 7;
-        let mut x = self.shifted().bytes;
-        x[15] = x[15] ^ (out * 0x87);
-        Block { bytes: x }
+        Halves::of_block(self).doubled().block()
     }
 
     // "4A is twice doubled."
     pub fn quadrupled(self) -> Block
         ensures { λ r. ⌜ r .bytes ≡ quadruple (self .bytes) ⌝ }
     {
-        self.doubled().doubled()
+        Halves::of_block(self).doubled().doubled().block()
     }
 }
 

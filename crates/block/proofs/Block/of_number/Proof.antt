@@ -1,17 +1,13 @@
-use native.Mathlib.Nat.{div-one}
+use mathlib.Core.Path.{_∙_}
 use borrow.Author.Needs.{needs}
-use Rattle.model.specs.Bytes.{bytesOf}
-use Rattle.model.specs.Aes.{block}
-use Rattle.block.proofs.Number.{leading-zeros}
+use Rattle.block.specs.Halves.{blockOf}
+use Rattle.block.proofs.Words.{small}
 use Rattle.block.proofs.Block.of_number.Statement.{statement}
 use Rattle.block.proofs.Block.of_number.Tie as tie
 
 returns : tie.Need-returns
-unfolding block bytesOf
-returns c = rw (leading-zeros 8 8 (c .args .k) (search needs)) (simp div-one)
+unfolding blockOf
+returns c = c .block .ensures ∙ small _ (search needs)
 
 pub of-number-spec : {M : Type 1} → statement M
-of-number-spec =
-    tie.close
-    (tie.spec (λ c. search needs) (λ c. search needs) (λ c. search needs) (λ c. search needs) (λ c. search needs) (λ c. search needs) (λ c. search needs) (λ c. search needs)
-    returns)
+of-number-spec = tie.close (tie.spec (λ c κs. search needs) returns)
