@@ -1,27 +1,25 @@
 -- Bits: a block under a mask, and what is 0 or 1: a colour, the truth value that it carries, a gate's value, a charged code's pair. Assumes nothing.
-use mathlib.Core.Path.{_≡_, _∙_}
-use Prim.Native.Nat.{ℕ, zero, suc, _+_, _*_, _≤_, _<_}
+use mathlib.Core.Path.{_≡_, ap₂, _∙_}
+use Prim.Native.Nat.{ℕ, zero, suc, _+_, _*_, _^_, _≤_, _<_}
 use native.Mathlib.Omega.{arith}
 use lib.Bits.{bitAnd, bitXor, and-mask, and-zero-r, xor-lt}
-use lib.ListN.{getD, length}
-use Rattle.model.specs.Bytes.{tabulate, bytesOf}
+use Rattle.model.specs.Bytes.{bytesOf}
 use Rattle.model.specs.Circuit.{charged, kindOf, value}
 use Rattle.model.specs.Aes.{Block, block, times}
 use Rattle.model.specs.Tokens.{colour}
 use Rattle.model.specs.Gax.{carried}
-use Rattle.model.proofs.Lists.{from-cong, elements}
 use Rattle.model.proofs.Xor.{xor-digit}
 use Rattle.model.proofs.Bits.{Bit, b0, b1}
 use Rattle.model.proofs.Tokens.{colour-bit}
 use Rattle.model.proofs.Codes.{value-bit, charged-own-pair}
+use Rattle.block.proofs.Words.{halves}
 
--- a bit times a block, byte by byte
-pub masked : (bit : ℕ) (a : Block) → bit ≤ 1 → length a ≡ 16 → ((k : ℕ) → getD a k 0 < 256) → tabulate 16 (λ i. bitAnd (getD a i 0) (bit * 255)) ≡ times bit a
+-- a bit times a block, whose halves are x and y: each under a mask
+pub masked : (bit x y : ℕ) → bit ≤ 1 → x < 2 ^ 64 → y < 2 ^ 64 → halves (bitAnd x (bit * 0xFFFFFFFFFFFFFFFF)) (bitAnd y (bit * 0xFFFFFFFFFFFFFFFF)) ≡ times bit (halves x y)
 unfolding times block bytesOf
-masked zero a h l f = from-cong 0 16 (λ i. bitAnd (getD a i 0) 0) (λ i. 0) (λ k _. and-zero-r (getD a k 0))
-masked (suc zero) a h l f =
-    from-cong 0 16 (λ i. bitAnd (getD a i 0) 255) (λ i. getD a i 0) (λ k _. and-mask (getD a k 0) 8 ∙ omega (arith, f k)) ∙ elements 16 a l
-masked (suc (suc bit)) a h l f = absurd (omega arith)
+masked zero x y h hx hy = ap₂ halves (and-zero-r x) (and-zero-r y)
+masked (suc zero) x y h hx hy = ap₂ halves (and-mask x 64 ∙ omega arith) (and-mask y 64 ∙ omega arith)
+masked (suc (suc bit)) x y h hx hy = absurd (omega arith)
 
 low : {x : ℕ} → Bit x → x ≤ 1
 low b0 = omega arith

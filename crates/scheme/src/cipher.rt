@@ -3,6 +3,7 @@ use aes::Pair;
 use aes::permute_fast;
 use aes::permute_pair;
 use block::Block;
+use block::Halves;
 ghost use mathlib.Core.Path.{_≡_};
 ghost use Prim.Native.Nat.{_≤_};
 ghost use Rattle.aes.specs.Tables.{IsTTables};
@@ -15,13 +16,13 @@ pub fn times(b: Block, bit: u8) -> Block
     requires { ⌜ bit ≤ 1 ⌝ }
     ensures { λ r. ⌜ r .bytes ≡ times bit (b .bytes) ⌝ }
 {
-    let a = b.bytes;
-    let mask = bit * 255;
-    let mut x = [0u8; 16];
-    for i in 0..16 {
-        x[i] = a[i] & mask;
-    }
-    Block { bytes: x }
+    let x = Halves::of_block(b);
+    let mask = (bit as u64) * 0xFFFFFFFFFFFFFFFF;
+    let y = Halves {
+        high: x.high & mask,
+        low: x.low & mask,
+    };
+    y.block()
 }
 
 // "K = 2A ⊕ 4B ⊕ T" (01, Scheme 1).
