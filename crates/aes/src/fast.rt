@@ -24,16 +24,18 @@ pub fn encrypt_fast(m: &[u32; 1024], w: &[u8; 176], b: Block) -> Block
     s.last_round(m, w)
 }
 
-// Two blocks encrypted under a schedule.
+// Two blocks encrypted under a schedule: two rounds of one and two of the other in turn, so that the state of the one that waits is
+// seldom moved out of the registers and back.
 pub fn encrypt_pair(m: &[u32; 1024], w: &[u8; 176], x: Block, y: Block) -> Pair
     requires { ⌜ IsTTables (now m) ⌝ }
     ensures { λ r. ⌜ (r .x .bytes ≡ cipher (now (w .entry)) (x .bytes)) × (r .y .bytes ≡ cipher (now (w .entry)) (y .bytes)) ⌝ }
 {
-    let mut s = Words::start(w, x);
-    let mut t = Words::start(w, y);
-    for r in 1..10 {
-        s = s.round(m, w, r);
-        t = t.round(m, w, r);
+    let mut s = Words::start(w, x).round(m, w, 1);
+    let mut t = Words::start(w, y).round(m, w, 1);
+    for k in 1..5 {
+        let r = 2 * k;
+        s = s.round(m, w, r).round(m, w, r + 1);
+        t = t.round(m, w, r).round(m, w, r + 1);
     }
     let x = s.last_round(m, w);
     let y = t.last_round(m, w);
