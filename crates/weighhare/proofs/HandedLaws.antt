@@ -3,12 +3,11 @@ use Prim.Native.Nat.{ℕ}
 use mathlib.Core.Path.{_≡_, sym, ap, _∙_}
 use mathlib.Core.List.{List, [], _∷_}
 use Rattle.model.specs.declared.Checked.{Checked}
-use Rattle.model.specs.declared.Evaluated.{Evaluated}
 use Rattle.model.specs.declared.Garbled.{Garbled}
 use Rattle.model.specs.declared.Refusal.{Refusal}
 use Rattle.model.specs.declared.Sizes.{Sizes}
 use Rattle.model.specs.Refusals.{Verdict, verdictOf}
-use Rattle.model.specs.Operations.{Answer, Made, checkedOf, garbledOf, evaluatedOf}
+use Rattle.model.specs.Operations.{Answer, Made, checkedOf, garbledOf}
 use Rattle.weighhare.specs.Out.{Out, out, verdictOut, sizesOut, madeOut, callsOut, Handed}
 
 -- an operation's answer r is `of r` in the model's terms; it is the case k
@@ -31,12 +30,9 @@ module _ (number : ℕ) (words : List ℕ) where
     pub garble-done : (l k : ℕ) → r ≡ Garbled.Done l k → out number words ≡ out 0 (l ∷ k ∷ 0 ∷ 0 ∷ []) → Handed Is madeOut number words
     garble-done l k = of-case Is garbledOf madeOut number words r (Garbled.Done l k) is
 
-  module _ (Is : Answer ℕ → Type 0) (r : Evaluated) (is : Is (evaluatedOf r)) where
-    pub evaluate-refused : (f : Refusal) → r ≡ Evaluated.Refused f → out number words ≡ verdictOut (verdictOf f) → Handed Is callsOut number words
-    evaluate-refused f = of-case Is evaluatedOf callsOut number words r (Evaluated.Refused f) is
-
-    pub evaluate-done : (k : ℕ) → r ≡ Evaluated.Done k → out number words ≡ out 0 (k ∷ 0 ∷ 0 ∷ 0 ∷ []) → Handed Is callsOut number words
-    evaluate-done k = of-case Is evaluatedOf callsOut number words r (Evaluated.Done k) is
+  -- an evaluation, of bytes or of gate records: either case
+  pub calls-handed : (Is : Answer ℕ → Type 0) (x : Answer ℕ) → Is x → out number words ≡ callsOut x → Handed Is callsOut number words
+  calls-handed Is x is o = record { result = x; is = is; set-out = o }
 
   -- plain, encode and decode: either case
   pub ran-handed : (Is : Verdict → Type 0) (x : Verdict) → Is x → out number words ≡ verdictOut x → Handed Is verdictOut number words

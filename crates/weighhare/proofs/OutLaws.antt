@@ -1,13 +1,14 @@
--- A refusal, and the answer of an operation that only writes, as they are set out. Assumes nothing.
+-- A refusal, the answer of an operation that only writes, and that of an evaluation, as they are set out. Assumes nothing.
 use Prim.Native.Nat.{ℕ}
 use mathlib.Core.Path.{_≡_, sym, ap, _∙_}
 use mathlib.Core.List.{List, [], _∷_}
+use Rattle.model.specs.declared.Evaluated.{Evaluated}
 use Rattle.model.specs.declared.Ran.{Ran}
 use Rattle.model.specs.declared.Refusal.{Refusal}
 use Rattle.model.specs.Refusals.{verdictOf}
-use Rattle.model.specs.Operations.{ranOf}
+use Rattle.model.specs.Operations.{ranOf, evaluatedOf}
 use Rattle.circuit.specs.Answers.{TurnedIs}
-use Rattle.weighhare.specs.Out.{out, verdictOut}
+use Rattle.weighhare.specs.Out.{out, verdictOut, callsOut}
 
 pub turned-out : (f : Refusal) (number place : ℕ) → TurnedIs f number place → out number (place ∷ 0 ∷ 0 ∷ 0 ∷ []) ≡ verdictOut (verdictOf f)
 turned-out f number place is = simp (is .is-number, is .is-place)
@@ -20,3 +21,12 @@ module _ (number : ℕ) (words : List ℕ) (r : Ran) where
   ran-done e o = o ∙ sym (ap (λ (x : Ran). verdictOut (ranOf x)) e)
 
 pub ruleset ran-cases = (ran-refused, ran-done)
+
+module _ (number : ℕ) (words : List ℕ) (r : Evaluated) where
+  pub evaluated-refused : (f : Refusal) → r ≡ Evaluated.Refused f → out number words ≡ verdictOut (verdictOf f) → out number words ≡ callsOut (evaluatedOf r)
+  evaluated-refused f e o = o ∙ sym (ap (λ (x : Evaluated). callsOut (evaluatedOf x)) e)
+
+  pub evaluated-done : (k : ℕ) → r ≡ Evaluated.Done k → out number words ≡ out 0 (k ∷ 0 ∷ 0 ∷ 0 ∷ []) → out number words ≡ callsOut (evaluatedOf r)
+  evaluated-done k e o = o ∙ sym (ap (λ (x : Evaluated). callsOut (evaluatedOf x)) e)
+
+pub ruleset evaluated-cases = (evaluated-refused, evaluated-done)

@@ -2,9 +2,10 @@
 ghost use mathlib.Core.Path.{_≡_};
 ghost use mathlib.Core.List.{_∷_, []};
 ghost use Rattle.model.specs.Refusals.{verdictOf};
-ghost use Rattle.model.specs.Operations.{ranOf};
-ghost use Rattle.weighhare.specs.Out.{out, verdictOut};
+ghost use Rattle.model.specs.Operations.{ranOf, evaluatedOf};
+ghost use Rattle.weighhare.specs.Out.{out, verdictOut, callsOut};
 use circuit::refusal::number_and_place;
+use model::Evaluated;
 use model::Ran;
 use model::Refusal;
 
@@ -38,5 +39,15 @@ pub fn ran(answer: &mut [u64; 4], done: Ran) -> u8
     match done {
         Ran::Refused(f) => refused(answer, f),
         Ran::Done => results(answer, 0, 0, 0, 0),
+    }
+}
+
+// The answer of an evaluation: the calls of π in the first word.
+pub fn evaluated(answer: &mut [u64; 4], e: Evaluated) -> u8
+    ensures { λ r. ⌜ out r (now (answer .exit)) ≡ callsOut (evaluatedOf e) ⌝ }
+{
+    match e {
+        Evaluated::Refused(f) => refused(answer, f),
+        Evaluated::Done(calls) => results(answer, calls, 0, 0, 0),
     }
 }

@@ -4,11 +4,11 @@ ghost use mathlib.Core.Path.{_≡_};
 ghost use Rattle.model.specs.Operations.{checkAnswer, PlainIs, GarbleIs, EncodeIs, EvaluateIs, DecodeIs};
 ghost use Rattle.weighhare.specs.Out.{Handed, verdictOut, sizesOut, madeOut, callsOut};
 ghost use Rattle.weighhare.specs.Pick.{PickIs, partOut};
+use crate::answer::evaluated;
 use crate::answer::ran;
 use crate::answer::refused;
 use crate::answer::results;
 use model::Checked;
-use model::Evaluated;
 use model::Garbled;
 use model::Ran;
 
@@ -85,10 +85,8 @@ pub extern "C" fn weighhare_evaluate(
 ) -> u8
     ensures { λ r. ⌜ Handed (λ x. EvaluateIs (now (circuit .entry)) (now (tokens .entry)) (now (material .entry)) (now (wires .entry)) x (now (wires .exit))) callsOut r (now (answer .exit)) ⌝ }
 {
-    match evaluate::evaluate(circuit, tokens, material, wires) {
-        Evaluated::Refused(f) => refused(answer, f),
-        Evaluated::Done(calls) => results(answer, calls, 0, 0, 0),
-    }
+    let e = evaluate::evaluate(circuit, tokens, material, wires);
+    evaluated(answer, e)
 }
 
 // Decode: the outputs' bits.
