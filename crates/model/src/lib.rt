@@ -10,6 +10,8 @@ pub struct Truth(pub u8);
 pub struct Colour(pub u8);
 
 // A gate as a circuit has it: two operands, which are wire numbers, and a code, which is its truth table (01, Circuit).
+// Its fields lie as in C, so that a caller in C can hand in a list of them.
+#[repr(C)]
 pub struct Gate {
     pub a: u16,
     pub b: u16,

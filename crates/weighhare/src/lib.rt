@@ -1,7 +1,7 @@
 // The C interface: the operations of 01 as exported functions, declared and explained in include/weighhare.h. Each returns the
 // refusal's number, 0 if none, and sets out the rest of its answer in four words.
 ghost use mathlib.Core.Path.{_≡_};
-ghost use Rattle.model.specs.Operations.{checkAnswer, PlainIs, GarbleIs, EncodeIs, EvaluateIs, DecodeIs};
+ghost use Rattle.model.specs.Operations.{checkAnswer, PlainIs, GarbleIs, EncodeIs, EvaluateIs, EvaluateGatesIs, DecodeIs};
 ghost use Rattle.weighhare.specs.Out.{Handed, verdictOut, sizesOut, madeOut, callsOut};
 ghost use Rattle.weighhare.specs.Pick.{PickIs, partOut};
 use crate::answer::evaluated;
@@ -10,6 +10,7 @@ use crate::answer::refused;
 use crate::answer::results;
 use model::Checked;
 use model::Garbled;
+use model::Gate;
 use model::Ran;
 
 pub mod answer;
@@ -86,6 +87,23 @@ pub extern "C" fn weighhare_evaluate(
     ensures { λ r. ⌜ Handed (λ x. EvaluateIs (now (circuit .entry)) (now (tokens .entry)) (now (material .entry)) (now (wires .entry)) x (now (wires .exit))) callsOut r (now (answer .exit)) ⌝ }
 {
     let e = evaluate::evaluate(circuit, tokens, material, wires);
+    evaluated(answer, e)
+}
+
+// The same over a list of gate records. Proved by hand, since it holds a slice of structs: so it only hands on.
+#[no_mangle]
+pub extern "C" fn weighhare_evaluate_gates(
+    n: u16,
+    m: u16,
+    gates: &[Gate],
+    tokens: &[u8],
+    material: &[u8],
+    wires: &mut [u8],
+    answer: &mut [u64; 4],
+) -> u8
+    ensures { λ r. ⌜ Handed (λ x. EvaluateGatesIs n m (now (gates .entry)) (now (tokens .entry)) (now (material .entry)) (now (wires .entry)) x (now (wires .exit))) callsOut r (now (answer .exit)) ⌝ }
+{
+    let e = evaluate::list::evaluate_gates(n, m, gates, tokens, material, wires);
     evaluated(answer, e)
 }
 
