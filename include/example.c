@@ -1,10 +1,17 @@
-/* An AND gate garbled, evaluated and decoded, for each pair of input values; then a refusal. C11, and C++17 too. */
+/*
+ * An AND gate garbled, evaluated from its bytes and from a list of gates, and decoded, for each pair of input values; then a
+ * refusal. C11, and C++17 too.
+ */
 #include "weighhare.h"
 
 #include <stdio.h>
+#include <string.h>
 
 /* 2 inputs, 1 output, 1 gate: wire 3 is wire 1 AND wire 2. */
 static const uint8_t and_gate[15] = {0x43, 0x48, 0, 2, 0, 1, 0, 1, 0x43, 0x47, 0, 1, 0, 2, 8};
+
+/* The same gate, already read: for an evaluator that runs one circuit many times. */
+static const weighhare_gate and_read[1] = {{1, 2, 8}};
 
 /* Says where an operation refused, and gives whether it did. */
 static int refused(const char *operation, uint8_t number, const uint64_t answer[4]) {
@@ -18,7 +25,7 @@ static int run(uint8_t scheme, uint8_t u, uint8_t v) {
     /* A real seed comes from the system's random numbers, and is used once. */
     const uint8_t seed[16] = {1, 2, 3, 4, 5, 6, 7, 8, 9, 10, 11, 12, 13, 14, 15, 16};
     const uint8_t values[2] = {u, v};
-    uint8_t material[80], zeros[3 * 16], ones[2 * 16], tokens[2 * 16], wires[3 * 16], bit[1];
+    uint8_t material[80], zeros[3 * 16], ones[2 * 16], tokens[2 * 16], wires[3 * 16], same[3 * 16], bit[1];
     uint64_t answer[4];
     size_t length;
 
@@ -32,6 +39,9 @@ static int run(uint8_t scheme, uint8_t u, uint8_t v) {
     /* The evaluator's side. The last wire is the output. */
     if (refused("evaluate", weighhare_evaluate(and_gate, sizeof and_gate, tokens, sizeof tokens, material, length, wires,
                                                sizeof wires, answer), answer)) return 1;
+    if (refused("evaluate_gates", weighhare_evaluate_gates(2, 1, and_read, 1, tokens, sizeof tokens, material, length, same,
+                                                           sizeof same, answer), answer)) return 1;
+    if (memcmp(same, wires, sizeof wires) != 0) return 1;
     if (refused("decode", weighhare_decode(and_gate, sizeof and_gate, wires + 2 * 16, 16, material, length, bit, sizeof bit,
                                            answer), answer)) return 1;
     printf("scheme %u: %u AND %u is %u, in %u bytes of material\n", scheme, u, v, bit[0], (unsigned)length);

@@ -13,8 +13,9 @@
  *   - takes any bytes and any lengths, and keeps nothing: no memory, no state, no pointer.
  *
  * What the caller must see to: each pointer is to as many bytes as its length says, readable, and writable for an output
- * buffer; a pointer is not null, even where its length is 0; `answer` is to four words, aligned as uint64_t is; an output
- * buffer and `answer` overlap nothing else that is handed in. Nothing checks this, and nothing holds where it is broken.
+ * buffer; `gates` is to q gates, aligned as uint16_t is; a pointer is not null, even where its length is 0; `answer` is to
+ * four words, aligned as uint64_t is; an output buffer and `answer` overlap nothing else that is handed in. Nothing checks
+ * this, and nothing holds where it is broken.
  *
  * Below n, m, q and p are the circuit's inputs, outputs, gates and charged gates. Wires are numbered from 1: the inputs 1
  * to n, then the gates n+1 to n+q, of which the last m are the outputs. Lists of tokens and of values are in that order.
@@ -119,7 +120,7 @@ uint8_t weighhare_evaluate(const uint8_t *circuit, size_t circuit_len, const uin
                            const uint8_t *material, size_t material_len, uint8_t *wires, size_t wires_len,
                            uint64_t answer[4]);
 
-/* A gate that is already read: two operands, which are wire numbers, and a code. */
+/* A gate that is already read: two operands, which are wire numbers, and a code. Its padding has no effect. */
 typedef struct {
     uint16_t a, b;
     uint8_t code;
@@ -127,7 +128,8 @@ typedef struct {
 
 /*
  * Evaluates as weighhare_evaluate does, from the gates already read: the answer that a circuit of the bytes made from them
- * would get. Refusals 3, 6, 7, 11, 12 to 18, 19; more than 65,535 gates are refusal 3.
+ * would get. For a caller that runs one circuit many times. Refusals 3, 6, 7, 11, 12 to 18, 19; more than 65,535 gates are
+ * refusal 3.
  *   n, m      the inputs and the outputs
  *   gates     q gates, in the order of their wire numbers
  *   tokens, material, wires, answer   as in weighhare_evaluate
