@@ -63,6 +63,18 @@ pub struct Sizes {
     pub p: usize,
 }
 
+/// A gate that is already read: two operands, which are wire numbers, and a code. Its fields lie as in C.
+#[derive(Clone, Copy, Debug, PartialEq, Eq, Hash)]
+#[repr(C)]
+pub struct Gate {
+    /// The first operand, from 1.
+    pub a: u16,
+    /// The second operand, over the first.
+    pub b: u16,
+    /// The code: 1, 2, 4, 7, 8, 11, 13, 14 (charged), 6, 9 (free).
+    pub code: u8,
+}
+
 /// What [`garble`] answers.
 #[derive(Clone, Copy, Debug, PartialEq, Eq)]
 #[must_use]
@@ -195,6 +207,50 @@ pub fn evaluate(circuit: &[u8], tokens: &[u8], material: &[u8], wires: &mut [u8]
     Ok(calls)
 }
 
+/// Evaluates as [`evaluate`] does, from the gates already read: the answer that a circuit of the bytes made from them would
+/// get. For a caller that runs one circuit many times. Refusals 3, 6, 7, 11, 12 to 18, 19; more than 65,535 gates are
+/// refusal 3.
+///
+/// `n` and `m` are the inputs and the outputs, and `gates` are in the order of their wire numbers; the rest is as in
+/// [`evaluate`].
+///
+/// ```
+/// use weighhare::{Gate, Refusal};
+///
+/// // Wire 3 is wire 1 AND wire 4: but there is no wire 4 yet.
+/// let gates = [Gate { a: 1, b: 4, code: 8 }];
+/// let refusal = weighhare::evaluate_gates(2, 1, &gates, &[], &[], &mut []).unwrap_err();
+/// assert_eq!(refusal, Refusal::Operands { wire: 3 });
+/// ```
+pub fn evaluate_gates(
+    n: u16,
+    m: u16,
+    gates: &[Gate],
+    tokens: &[u8],
+    material: &[u8],
+    wires: &mut [u8],
+) -> Result<usize, Refusal> {
+    let mut answer = [0; 4];
+    // SAFETY: pointers and lengths are slices', and a `Gate` lies as in C; `wires` and `answer` are borrowed alone.
+    let number = unsafe {
+        library::weighhare_evaluate_gates(
+            n,
+            m,
+            gates.as_ptr(),
+            gates.len(),
+            tokens.as_ptr(),
+            tokens.len(),
+            material.as_ptr(),
+            material.len(),
+            wires.as_mut_ptr(),
+            wires.len(),
+            &mut answer,
+        )
+    };
+    let [calls, ..] = results(number, answer)?;
+    Ok(calls)
+}
+
 /// Decodes the outputs' tokens to bits. Any tokens decode. Refusals 1 to 7, 11, 12 to 18, 19.
 ///
 /// `tokens` has 16m bytes, the tokens of the outputs (the end of what [`evaluate`] wrote); `material` is exactly as long as
@@ -259,5 +315,21 @@ fn results(number: u8, answer: library::Answer) -> Result<[usize; 4], Refusal> {
             "libweighhare.a gave refusal {number} at place {}, which there is not",
             words[0]
         ),
+    }
+}
+
+#[cfg(test)]
+mod tests {
+    use super::Gate;
+    use std::mem::{align_of, offset_of, size_of};
+
+    /// As `weighhare_gate` of `include/weighhare.h`: two 16-bit fields, a byte, and a byte that is not used.
+    #[test]
+    fn a_gate_lies_as_in_c() {
+        assert_eq!((size_of::<Gate>(), align_of::<Gate>()), (6, 2));
+        assert_eq!(
+            (offset_of!(Gate, a), offset_of!(Gate, b), offset_of!(Gate, code)),
+            (0, 2, 4)
+        );
     }
 }

@@ -1,5 +1,7 @@
 //! The functions of `libweighhare.a`, as `include/weighhare.h` declares them.
 
+use crate::Gate;
+
 /// Four words: the place of a refusal, or an operation's results.
 pub type Answer = [u64; 4];
 
@@ -48,6 +50,20 @@ extern "C" {
     pub fn weighhare_evaluate(
         circuit: *const u8,
         circuit_len: usize,
+        tokens: *const u8,
+        tokens_len: usize,
+        material: *const u8,
+        material_len: usize,
+        wires: *mut u8,
+        wires_len: usize,
+        answer: *mut Answer,
+    ) -> u8;
+
+    pub fn weighhare_evaluate_gates(
+        n: u16,
+        m: u16,
+        gates: *const Gate,
+        q: usize,
         tokens: *const u8,
         tokens_len: usize,
         material: *const u8,

@@ -2,8 +2,17 @@
 
 mod common;
 
-use common::{garbling, Garbling, AND, FILL, SEED};
+use common::{garbling, Garbling, AND, FILL, GATES, SEED};
 use weighhare::Sizes;
+
+/// The bytes of the circuit that has the gates `GATES`: 3 inputs, 2 outputs, 3 gates.
+#[rustfmt::skip]
+const THREE: [u8; 29] = [
+    0x43, 0x48, 0, 3, 0, 2, 0, 3,
+    0x43, 0x47, 0, 1, 0, 2, 8,
+    0x43, 0x47, 0, 3, 0, 4, 6,
+    0x43, 0x47, 0, 4, 0, 5, 1,
+];
 
 #[test]
 fn check_gives_the_sizes() {
@@ -63,6 +72,32 @@ fn evaluate_and_decode_give_the_plain_bit() {
             assert_eq!(tokens[48], FILL);
             weighhare::decode(&AND, &tokens[32..48], &material, &mut bits).expect("decoded");
             assert_eq!(bits, [u & v, FILL]);
+        }
+    }
+}
+
+#[test]
+fn evaluate_gates_answers_as_evaluate_does_to_the_bytes() {
+    for (scheme, rows, calls) in [(1, 4, 2), (2, 3, 2), (3, 2, 4)] {
+        let (mut material, mut zeros, mut ones) = (vec![0; 13 + 2 * (4 + 16 * rows)], [0; 96], [0; 48]);
+        let garbled = weighhare::garble(&THREE, &SEED, scheme, &mut material, &mut zeros, &mut ones).expect("garbled");
+        assert_eq!(garbled.length, material.len());
+        for values in 0..8 {
+            let values = [values >> 2, values >> 1 & 1, values & 1];
+            let (mut inputs, mut by_bytes, mut by_list) = ([0; 48], [FILL; 97], [FILL; 97]);
+            weighhare::encode(&THREE, &values, &zeros[..48], &ones, &mut inputs).expect("encoded");
+            let answer = weighhare::evaluate(&THREE, &inputs, &material, &mut by_bytes);
+            assert_eq!(answer, Ok(calls));
+            assert_eq!(
+                weighhare::evaluate_gates(3, 2, &GATES, &inputs, &material, &mut by_list),
+                answer
+            );
+            assert_eq!(by_list, by_bytes, "every token, and the byte past them");
+
+            let (mut bits, mut wires) = ([FILL; 2], [FILL; 6]);
+            weighhare::decode(&THREE, &by_list[64..96], &material, &mut bits).expect("decoded");
+            weighhare::plain(&THREE, &values, &mut wires).expect("evaluated");
+            assert_eq!(bits, wires[4..]);
         }
     }
 }

@@ -2,8 +2,8 @@
 
 mod common;
 
-use common::{garbling, Garbling, AND, FILL, SEED};
-use weighhare::Refusal;
+use common::{garbling, Garbling, AND, FILL, GATES, SEED};
+use weighhare::{Gate, Refusal};
 
 /// The AND gate with one byte changed.
 fn and_with(index: usize, byte: u8) -> [u8; 15] {
@@ -106,6 +106,91 @@ fn of_the_material() {
     );
     assert_eq!(material_with(12, 4), Some(Refusal::RowRecord { wire: 3 }));
     assert_eq!(material_with(79, 2), Some(Refusal::LastRecord { start: 77 }));
+}
+
+/// The refusal of a list of gates, with n inputs and m outputs, before its tokens and material are looked at. The buffer is
+/// seen to be as it was.
+fn gates_refusal(n: u16, m: u16, gates: &[Gate]) -> Option<Refusal> {
+    let mut wires = [FILL; 96];
+    let refusal = weighhare::evaluate_gates(n, m, gates, &[], &[], &mut wires).err();
+    assert_eq!(wires, [FILL; 96], "untouched");
+    refusal
+}
+
+/// `GATES` with one gate changed.
+fn gates_with(index: usize, gate: Gate) -> [Gate; 3] {
+    let mut gates = GATES;
+    gates[index] = gate;
+    gates
+}
+
+#[test]
+fn of_the_sizes_of_a_list_of_gates() {
+    assert_eq!(gates_refusal(2, 1, &[]), Some(Refusal::Limits), "no gates");
+    assert_eq!(
+        gates_refusal(2, 0, &[]),
+        Some(Refusal::Limits),
+        "no gates and no outputs"
+    );
+    assert_eq!(gates_refusal(1, 2, &GATES), Some(Refusal::Limits), "one input");
+    assert_eq!(gates_refusal(4097, 2, &GATES), Some(Refusal::Limits), "4097 inputs");
+    assert_eq!(gates_refusal(3, 0, &GATES), Some(Refusal::Limits), "no outputs");
+    assert_eq!(
+        gates_refusal(3, 4, &GATES),
+        Some(Refusal::Limits),
+        "more outputs than gates"
+    );
+    // 65,536 is 0 in 16 bits, and 65,537 is 1: neither is taken for it.
+    for q in [65_534, 65_535, 65_536, 65_537] {
+        let gates = vec![GATES[0]; q];
+        assert_eq!(gates_refusal(2, 1, &gates), Some(Refusal::Limits), "{q} gates");
+    }
+    let most = vec![GATES[0]; 65_533];
+    let refusal = gates_refusal(2, 1, &most);
+    assert_eq!(refusal, Some(Refusal::TokensLength { length: 0 }), "65,533 gates");
+}
+
+#[test]
+fn of_a_gate_in_a_list() {
+    assert_eq!(gates_refusal(3, 2, &GATES), Some(Refusal::TokensLength { length: 0 }));
+    for (index, wire) in [(0, 4), (1, 5), (2, 6)] {
+        let refusal = |gate| gates_refusal(3, 2, &gates_with(index, gate));
+        for (a, b) in [(0, 1), (1, 1), (2, 1), (1, wire), (1, 65_535)] {
+            assert_eq!(refusal(Gate { a, b, code: 8 }), Some(Refusal::Operands { wire }));
+        }
+        for code in [0, 3, 5, 10, 12, 15, 16, 255] {
+            assert_eq!(refusal(Gate { a: 1, b: 2, code }), Some(Refusal::Code { wire }));
+        }
+        let both = Gate { a: 1, b: 1, code: 0 };
+        assert_eq!(refusal(both), Some(Refusal::Operands { wire }), "6 before 7");
+    }
+}
+
+#[test]
+fn of_the_rest_with_a_list_of_gates() {
+    let Garbling { material, ones, .. } = garbling(1);
+    let evaluate = |tokens: &[u8], material: &[u8], room: usize| {
+        let mut wires = [FILL; 48];
+        let refusal = weighhare::evaluate_gates(2, 1, &GATES[..1], tokens, material, &mut wires[..room]).err();
+        assert!(refusal.is_none() || wires == [FILL; 48], "untouched");
+        refusal
+    };
+    assert_eq!(evaluate(&ones, &material, 48), None);
+    assert_eq!(
+        evaluate(&ones[1..], &material, 48),
+        Some(Refusal::TokensLength { length: 31 })
+    );
+    assert_eq!(
+        evaluate(&ones, &material[..79], 48),
+        Some(Refusal::MaterialLength { length: 79 })
+    );
+    let mut other = material.clone();
+    other[12] = 4;
+    assert_eq!(evaluate(&ones, &other, 48), Some(Refusal::RowRecord { wire: 3 }));
+    other = material.clone();
+    other[79] = 2;
+    assert_eq!(evaluate(&ones, &other, 48), Some(Refusal::LastRecord { start: 77 }));
+    assert_eq!(evaluate(&ones, &material, 47), Some(Refusal::Room { needed: 48 }));
 }
 
 #[test]

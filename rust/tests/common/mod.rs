@@ -1,7 +1,16 @@
-//! The AND gate of document 01's examples, garbled.
+//! The AND gate of document 01's examples, garbled; and a list of three gates.
+
+use weighhare::Gate;
 
 /// 2 inputs, 1 output, 1 gate: wire 3 is wire 1 AND wire 2.
 pub const AND: [u8; 15] = [0x43, 0x48, 0, 2, 0, 1, 0, 1, 0x43, 0x47, 0, 1, 0, 2, 8];
+
+/// With 3 inputs, wire 4 is wire 1 AND wire 2, wire 5 is wire 3 XOR wire 4, wire 6 is wire 4 NOR wire 5.
+pub const GATES: [Gate; 3] = [
+    Gate { a: 1, b: 2, code: 8 },
+    Gate { a: 3, b: 4, code: 6 },
+    Gate { a: 4, b: 5, code: 1 },
+];
 
 /// The seed of every garbling here.
 pub const SEED: [u8; 16] = [7; 16];
