@@ -10,7 +10,8 @@ use crate::operations as op;
 use crate::random::Random;
 use crate::scheme::Scheme;
 
-const SCHEMES: [Scheme; 3] = [Scheme::GaX, Scheme::GaXR, Scheme::HalfGates];
+/// The schemes.
+pub const SCHEMES: [Scheme; 3] = [Scheme::GaX, Scheme::GaXR, Scheme::HalfGates];
 
 /// All calls made here, of evaluate or of decode.
 pub fn calls(random: &mut Random, operation: Operation) -> Vec<Call> {
@@ -80,7 +81,7 @@ fn exact(
 
 /// Calls on a garbling made here, one for each list of input values: evaluate on the tokens of the
 /// inputs, decode on those of the outputs that come of it.
-fn own(random: &mut Random, operation: Operation, bytes: &[u8], scheme: Scheme) -> Vec<Call> {
+pub fn own(random: &mut Random, operation: Operation, bytes: &[u8], scheme: Scheme) -> Vec<Call> {
     let sizes = op::check(bytes).expect("an accepted circuit");
     let Sizes { n, m, .. } = sizes;
     let wires = BLOCK * sizes.wires();
@@ -104,7 +105,7 @@ fn own(random: &mut Random, operation: Operation, bytes: &[u8], scheme: Scheme) 
 }
 
 /// A call on a stranger's material and any tokens.
-fn strange(random: &mut Random, operation: Operation, bytes: &[u8], scheme: Scheme) -> Call {
+pub fn strange(random: &mut Random, operation: Operation, bytes: &[u8], scheme: Scheme) -> Call {
     let circuit = Circuit::read(bytes).expect("an accepted circuit");
     let Sizes { n, m, .. } = circuit.sizes();
     let count = if operation == Operation::Decode { m } else { n };
@@ -122,7 +123,7 @@ fn changed(call: &Call, at: usize, byte: u8, number: u8) -> Call {
 }
 
 /// The call, which must be refused with a number.
-fn refused(call: Call, number: u8) -> Call {
+pub fn refused(call: Call, number: u8) -> Call {
     let given = call.run().answer.map_err(|refused| refused.number);
     assert_eq!(given, Err(number), "{call:?}");
     call
@@ -136,7 +137,7 @@ fn with_length(call: &Call, length: usize, number: u8) -> Call {
 }
 
 /// Calls on the material tampered with: every length and every byte that a refusal looks at.
-fn tampered(call: &Call) -> Vec<Call> {
+pub fn tampered(call: &Call) -> Vec<Call> {
     let material = &call.material;
     let sizes = op::check(&call.circuit).expect("an accepted circuit");
     let length = material.len();
@@ -160,7 +161,7 @@ fn tampered(call: &Call) -> Vec<Call> {
 
 /// The call itself; its tokens and its buffer a byte shorter, a byte longer and empty; and each of
 /// these tokens and buffers with material of an unknown scheme, which comes after 11 and before 19.
-fn around(call: &Call) -> Vec<Call> {
+pub fn around(call: &Call) -> Vec<Call> {
     let tokens = call.tokens.len();
     let room = call.lens[0];
     let mut calls = vec![call.clone()];

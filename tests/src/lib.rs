@@ -16,6 +16,7 @@ pub mod hex;
 pub mod interface;
 pub mod large;
 pub mod lines;
+pub mod listed;
 pub mod material;
 pub mod operations;
 pub mod pi;

@@ -1,6 +1,7 @@
 //! Cases as the test program `vectors` reads them: a line each, fields in hexadecimal.
 
 use crate::call::{Call, Operation, Outcome};
+use crate::circuit::Gate;
 use crate::hex;
 use crate::refused::Refused;
 
@@ -42,6 +43,17 @@ fn setting(first: &[u8], call: &Call) -> Vec<u8> {
     bytes
 }
 
+/// n, m and the gates of the list form, 2 bytes each, 5 bytes each gate.
+fn gate_list(call: &Call) -> Vec<u8> {
+    let gate = |gate: &Gate| {
+        let ([a0, a1], [b0, b1]) = (gate.a.to_be_bytes(), gate.b.to_be_bytes());
+        [a0, a1, b0, b1, gate.code]
+    };
+    let sizes = [call.n.to_be_bytes(), call.m.to_be_bytes()].concat();
+    let gates = call.gates.iter().flat_map(gate);
+    sizes.into_iter().chain(gates).collect()
+}
+
 /// The arguments of a call, as fields.
 fn arguments(call: &Call) -> Vec<Vec<u8>> {
     let circuit = call.circuit.clone();
@@ -61,11 +73,14 @@ fn arguments(call: &Call) -> Vec<Vec<u8>> {
             let setting = setting(&[call.fill], call);
             vec![circuit, call.tokens.clone(), call.material.clone(), setting]
         }
+        Operation::EvaluateGates => {
+            let (list, setting) = (gate_list(call), setting(&[call.fill], call));
+            vec![list, call.tokens.clone(), call.material.clone(), setting]
+        }
         Operation::Pick => {
             let asked = [&call.wire.to_be_bytes()[..], &[call.bit]].concat();
             vec![zero, one, asked]
         }
-        other => panic!("`vectors` has no form for {other:?}"),
     }
 }
 
@@ -77,7 +92,11 @@ pub fn case(call: &Call, expected: &Outcome) -> String {
     fields.push(answer(&expected.answer));
     let left_out = matches!(
         call.operation,
-        Operation::Garble | Operation::Encode | Operation::Evaluate | Operation::Decode
+        Operation::Garble
+            | Operation::Encode
+            | Operation::Evaluate
+            | Operation::EvaluateGates
+            | Operation::Decode
     );
     if !(left_out && expected.answer.is_err()) {
         fields.extend(expected.buffers.clone());

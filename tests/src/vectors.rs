@@ -9,6 +9,7 @@ use crate::evaluator;
 use crate::generate::{self, damage};
 use crate::large::{self, Rule};
 use crate::lines;
+use crate::listed;
 use crate::random::Random;
 
 /// A file of cases, a line each.
@@ -47,6 +48,10 @@ pub fn files() -> Vec<File> {
         let text = generated_cases(operation);
         files.push(File { name, text });
     }
+    let (name, text) = ("evaluate-gates", stored_lists());
+    files.push(File { name, text });
+    let (name, text) = ("evaluate-gates-generated", generated_lists());
+    files.push(File { name, text });
     let (name, text) = ("chain-generated", chained::cases());
     files.push(File { name, text });
     let (name, text) = ("garble-large", large_cases());
@@ -56,11 +61,14 @@ pub fn files() -> Vec<File> {
 
 /// The stored cases of an operation, with the answers stored.
 fn stored_cases(operation: Operation) -> String {
+    stored_with(|call| call.operation == operation)
+}
+
+/// The stored cases that are asked for, with the answers stored.
+fn stored_with(asked: impl Fn(&Call) -> bool) -> String {
     let cases = cases::read(include_str!("../data/base.jsonl")).expect("readable cases");
     let line = |case: &cases::Case| match &case.asked {
-        Asked::Call { call, expected } if call.operation == operation => {
-            Some(lines::case(call, expected))
-        }
+        Asked::Call { call, expected } if asked(call) => Some(lines::case(call, expected)),
         _ => None,
     };
     cases.iter().filter_map(line).collect()
@@ -88,6 +96,20 @@ fn generated_cases(operation: Operation) -> String {
     if matches!(operation, Operation::Evaluate | Operation::Decode) {
         calls.extend(evaluator::calls(&mut random, operation));
     }
+    let line = |call: &Call| lines::case(call, &call.run());
+    calls.iter().map(line).collect()
+}
+
+/// The stored cases of the list form on as many gates as `vectors` lends.
+fn stored_lists() -> String {
+    stored_with(|call| {
+        call.operation == Operation::EvaluateGates && call.gates.len() == listed::GATES
+    })
+}
+
+/// New cases of the list form.
+fn generated_lists() -> String {
+    let calls = listed::calls(&mut Random::new(1_010));
     let line = |call: &Call| lines::case(call, &call.run());
     calls.iter().map(line).collect()
 }

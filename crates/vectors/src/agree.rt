@@ -8,6 +8,7 @@ use crate::evaluator::evaluate_run;
 use crate::garbler::encode_run;
 use crate::garbler::garble_run;
 use crate::garbler::pick_run;
+use crate::listed::list_run;
 use aes::encrypt;
 use aes::expand_key;
 use aes::s_box;
@@ -107,7 +108,7 @@ fn plain_run(
 }
 
 // By group: 1 encryption, 2 key expansion, 3 doubling, 4 check, 5 plain, 6 garble, 7 encode, 8 pick, 10 evaluate,
-// 11 decode, 12 the chain. What an operation writes goes to `work`, and garble's tokens to `zeros` and `ones`.
+// 11 decode, 12 the chain, 13 evaluate's list form. What an operation writes goes to `work`, and garble's tokens to `zeros` and `ones`.
 pub fn agrees<'a>(
     group: u8,
     a: &'a [u8],
@@ -133,6 +134,7 @@ pub fn agrees<'a>(
         10 => evaluate_run(a, b, c, d, e, f, work),
         11 => decode_run(a, b, c, d, e, f, work),
         12 => chain_run(a, b, c, d, e, f, g, work, zeros, ones),
+        13 => list_run(a, b, c, d, e, f, work),
         _ => false,
     }
 }

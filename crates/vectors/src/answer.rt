@@ -5,6 +5,8 @@ ghost use lib.ListN.{length};
 use buffer::read16;
 use check::same;
 use circuit::refusal::number_and_place;
+use model::Evaluated;
+use model::Ran;
 use model::Refusal;
 
 // A number as 4 bytes.
@@ -76,4 +78,28 @@ pub fn done_with(x: usize, y: usize, answer: &[u8]) -> bool {
     let q = word(y);
     let given = [0, p[0], p[1], p[2], p[3], q[0], q[1], q[2], q[3]];
     same(&given, answer)
+}
+
+// Whether an answer is that of an operation whose only results are bytes.
+pub fn ran(r: Ran, answer: &[u8]) -> bool {
+    match r {
+        Ran::Refused(f) => refused(f, answer),
+        Ran::Done => done(answer),
+    }
+}
+
+// Whether an answer is that of evaluate.
+pub fn evaluated(e: Evaluated, answer: &[u8]) -> bool {
+    match e {
+        Evaluated::Refused(f) => refused(f, answer),
+        Evaluated::Done(calls) => done_calls(calls, answer),
+    }
+}
+
+// Whether an answer is no refusal.
+pub fn accepted(answer: &[u8]) -> bool {
+    if answer.len() == 0 {
+        return false;
+    }
+    answer[0] == 0
 }

@@ -1,14 +1,10 @@
 // Whether a case agrees with the evaluator's operations. Before a call every byte of the lent buffer is the case's fill;
 // after it the buffer must hold the case's bytes, or after a refusal still nothing but the fill.
-use crate::answer::done;
-use crate::answer::done_calls;
-use crate::answer::refused;
+use crate::answer::evaluated;
+use crate::answer::ran;
 use crate::answer::room_at;
 use crate::fill::fill;
-use crate::fill::filled;
-use check::same;
-use model::Evaluated;
-use model::Ran;
+use crate::fill::left;
 
 // Evaluate on a buffer: the answer, and what the buffer holds after it.
 fn evaluate_leaves(
@@ -21,10 +17,8 @@ fn evaluate_leaves(
     wires: &mut [u8],
 ) -> bool {
     fill(wires, before);
-    match evaluate::evaluate(circuit, tokens, material, wires) {
-        Evaluated::Refused(f) => refused(f, answer) && filled(wires, before),
-        Evaluated::Done(calls) => done_calls(calls, answer) && same(wires, after),
-    }
+    let e = evaluate::evaluate(circuit, tokens, material, wires);
+    evaluated(e, answer) & left(answer, before, after, wires)
 }
 
 // Circuit, tokens, material, setting (fill and the buffer's length: 1 byte and 4), the answer, and the buffer.
@@ -63,10 +57,8 @@ fn decode_leaves(
     bits: &mut [u8],
 ) -> bool {
     fill(bits, before);
-    match evaluate::decode(circuit, tokens, material, bits) {
-        Ran::Refused(f) => refused(f, answer) && filled(bits, before),
-        Ran::Done => done(answer) && same(bits, after),
-    }
+    let r = evaluate::decode(circuit, tokens, material, bits);
+    ran(r, answer) & left(answer, before, after, bits)
 }
 
 // Circuit, tokens, material, setting (fill and the buffer's length: 1 byte and 4), the answer, and the buffer.

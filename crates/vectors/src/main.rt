@@ -14,6 +14,7 @@ mod fingerprint;
 mod garbler;
 mod large;
 mod line;
+mod listed;
 mod room;
 mod rule;
 
@@ -57,6 +58,8 @@ fn main() {
     run_file(8, b"pick-generated");
     run_file(10, b"evaluate-generated");
     run_file(11, b"decode-generated");
+    run_file(13, b"evaluate-gates");
+    run_file(13, b"evaluate-gates-generated");
     run_file(12, b"chain-generated");
     run_file(9, b"garble-large");
 }
