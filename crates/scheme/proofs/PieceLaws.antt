@@ -20,10 +20,11 @@ pub sealed-is : (s : Site) (c d : ℕ) (z a b x : Block) (t : ℕ) → x ≡ dua
 unfolding sealed
 sealed-is s c d z a b x t is-x is-a is-b is-t = rw (is-x, is-a, is-b, is-t)
 
--- E of block 0: x is π(k) ⊕ k
-pub mask-is : (a b : Block) (t : ℕ) (k x : Block) → k ≡ keyBlock a b t → x ≡ π k ⊕ k → x ≡ dualKey a b t (block 0)
+-- E of block 0: p is π(k)
+pub mask-is : (a b : Block) (t : ℕ) (k p x : Block) → k ≡ keyBlock a b t → p ≡ π k → x ≡ p ⊕ k → x ≡ dualKey a b t (block 0)
 unfolding dualKey keyBlock
-mask-is a b t k x is-k is-x = rw (is-x, is-k) (ap (λ (y : Block). π (keyBlock a b t) ⊕ y) (sym (⊕-zero (keyBlock a b t) (⊕-length (double a) (quadruple b ⊕ block t)))))
+mask-is a b t k p x is-k is-p is-x =
+    rw (is-x, is-p, is-k) (ap (λ (y : Block). π (keyBlock a b t) ⊕ y) (sym (⊕-zero (keyBlock a b t) (⊕-length (double a) (quadruple b ⊕ block t)))))
 
 -- E of z is that of block 0, ⊕ z
 masked : (a b : Block) (t : ℕ) (z : Block) → dualKey a b t (block 0) ⊕ z ≡ dualKey a b t z

@@ -7,7 +7,7 @@ use block::Halves;
 ghost use mathlib.Core.Path.{_≡_};
 ghost use Prim.Native.Nat.{_≤_};
 ghost use Rattle.aes.specs.Tables.{IsTTables};
-ghost use Rattle.model.specs.Aes.{keyExpansion, fixedKey, _⊕_, times, block, π};
+ghost use Rattle.model.specs.Aes.{keyExpansion, fixedKey, times, block};
 ghost use Rattle.model.specs.Gax.{keyBlock, dualKey};
 ghost use Rattle.model.specs.HalfGates.{hashBlock, hash};
 
@@ -42,18 +42,6 @@ pub fn dual_key(m: &[u32; 1024], w: &[u8; 176], a: Block, b: Block, tweak: u64, 
     permute_fast(m, w, k).xor(k.xor(z))
 }
 
-// π(k) ⊕ k of two blocks, side by side: two calls of π.
-fn mask_pair(m: &[u32; 1024], w: &[u8; 176], k: Block, l: Block) -> Pair
-    requires { ⌜ IsTTables (now m) ⌝ }
-    requires { ⌜ now w ≡ keyExpansion fixedKey ⌝ }
-    ensures { λ r. ⌜ (r .x .bytes ≡ π (k .bytes) ⊕ k .bytes) × (r .y .bytes ≡ π (l .bytes) ⊕ l .bytes) ⌝ }
-{
-    let p = permute_pair(m, w, k, l);
-    let x = p.x.xor(k);
-    let y = p.y.xor(l);
-    Pair { x, y }
-}
-
 // E of block 0 under a token A with two tokens B, side by side: what is sealed is exclusive-ored in afterwards. Two calls of π.
 pub fn dual_pair(
     m: &[u32; 1024],
@@ -68,7 +56,12 @@ pub fn dual_pair(
     requires { ⌜ now w ≡ keyExpansion fixedKey ⌝ }
     ensures { λ r. ⌜ (r .x .bytes ≡ dualKey (a .bytes) (b .bytes) i (block 0)) × (r .y .bytes ≡ dualKey (a .bytes) (c .bytes) j (block 0)) ⌝ }
 {
-    mask_pair(m, w, key_block(a, b, i), key_block(a, c, j))
+    let k = key_block(a, b, i);
+    let l = key_block(a, c, j);
+    let p = permute_pair(m, w, k, l);
+    let x = p.x.xor(k);
+    let y = p.y.xor(l);
+    Pair { x, y }
 }
 
 // "2x ⊕ i" (01, Scheme 3).
@@ -84,5 +77,10 @@ pub fn hash_pair(m: &[u32; 1024], w: &[u8; 176], x: Block, i: u64, y: Block, j: 
     requires { ⌜ now w ≡ keyExpansion fixedKey ⌝ }
     ensures { λ r. ⌜ (r .x .bytes ≡ hash (x .bytes) i) × (r .y .bytes ≡ hash (y .bytes) j) ⌝ }
 {
-    mask_pair(m, w, hash_block(x, i), hash_block(y, j))
+    let k = hash_block(x, i);
+    let l = hash_block(y, j);
+    let p = permute_pair(m, w, k, l);
+    let x = p.x.xor(k);
+    let y = p.y.xor(l);
+    Pair { x, y }
 }

@@ -8,4 +8,6 @@ unfolding hash
 returns c = (cc, cc)
 
 pub hash-pair-spec : {M : Type 1} → statement M
-hash-pair-spec = tie.close (tie.spec (λ c κs. search needs) (λ c κs. search needs) (λ c κs. search needs) returns)
+hash-pair-spec =
+    tie.close
+    (tie.spec (λ c κs. search needs) (λ c κs. search needs) (λ c κs. search needs) (λ c κs. search needs) (λ c κs. search needs) returns)
