@@ -1,7 +1,6 @@
-/* One circuit evaluated many times. The list form came later than the others: without it there is nothing here. */
+/* One circuit evaluated many times. */
 #include "repeated.h"
 
-#ifdef EVALUATE_GATES_IS_THERE
 #include <stdio.h>
 #include <stdlib.h>
 #include <string.h>
@@ -71,9 +70,3 @@ void measure_repeated(struct subject *s, uint8_t scheme, unsigned rounds)
     print_rounds("repeated", scheme, s->q, "gates", times[1], rounds);
     free(gates);
 }
-#else
-void measure_repeated(struct subject *s, uint8_t scheme, unsigned rounds)
-{
-    (void)s, (void)scheme, (void)rounds;
-}
-#endif

@@ -10,17 +10,11 @@ use std::{env, fs};
 fn main() {
     let root = PathBuf::from(env!("CARGO_MANIFEST_DIR")).join("..");
     println!("cargo:rerun-if-env-changed=WEIGHHARE_ARCHIVE");
-    println!("cargo:rustc-check-cfg=cfg(evaluate_gates)");
     let archive = match env::var_os("WEIGHHARE_ARCHIVE") {
         Some(named) => PathBuf::from(named),
         None => own_archive(&root),
     };
     println!("cargo:rerun-if-changed={}", archive.display());
-    let bytes = fs::read(&archive).expect("a readable archive");
-    // The list form came later than the others: it is compared where the archive has it.
-    if has(&bytes, b"weighhare_evaluate_gates\0") {
-        println!("cargo:rustc-cfg=evaluate_gates");
-    }
     println!("cargo:rustc-link-arg-tests={}", archive.display());
     println!("cargo:rustc-link-arg-bin=archive_aes={}", archive.display());
 }
@@ -55,9 +49,4 @@ fn newest(directory: &Path) -> SystemTime {
         newest = newest.max(changed);
     }
     newest
-}
-
-/// Whether the bytes have a part.
-fn has(bytes: &[u8], part: &[u8]) -> bool {
-    bytes.windows(part.len()).any(|window| window == part)
 }

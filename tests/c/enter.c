@@ -7,15 +7,6 @@
 
 #define LIST(lent) (lent).at, (lent).length
 
-int has_operation(uint8_t operation)
-{
-#ifdef EVALUATE_GATES_IS_THERE
-    return operation <= PICK;
-#else
-    return operation <= PICK && operation != EVALUATE_GATES;
-#endif
-}
-
 uint8_t enter(const struct call *call, const struct lent *in, const struct lent *out, uint64_t answer[4])
 {
     switch (call->operation) {
@@ -29,13 +20,11 @@ uint8_t enter(const struct call *call, const struct lent *in, const struct lent 
         return weighhare_encode(LIST(in[0]), LIST(in[1]), LIST(in[2]), LIST(in[3]), LIST(out[0]), answer);
     case EVALUATE:
         return weighhare_evaluate(LIST(in[0]), LIST(in[1]), LIST(in[2]), LIST(out[0]), answer);
-#ifdef EVALUATE_GATES_IS_THERE
     case EVALUATE_GATES: {
         const weighhare_gate *gates = (const weighhare_gate *)(const void *)in[0].at;
         size_t q = in[0].length / sizeof *gates;
         return weighhare_evaluate_gates(call->n, call->m, gates, q, LIST(in[1]), LIST(in[2]), LIST(out[0]), answer);
     }
-#endif
     case DECODE:
         return weighhare_decode(LIST(in[0]), LIST(in[1]), LIST(in[2]), LIST(out[0]), answer);
     case PICK:

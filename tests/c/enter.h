@@ -5,9 +5,6 @@
 #include "cases.h"
 #include "lend.h"
 
-/* Whether the archive has the operation. */
-int has_operation(uint8_t operation);
-
 /* Calls the function on the lists and the output buffers lent, in the order of its arguments. */
 uint8_t enter(const struct call *call, const struct lent *in, const struct lent *out, uint64_t answer[4]);
 

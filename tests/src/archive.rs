@@ -64,7 +64,6 @@ unsafe extern "C" {
         wl: usize,
         answer: Words,
     ) -> u8;
-    #[cfg(evaluate_gates)]
     fn weighhare_evaluate_gates(
         n: u16,
         m: u16,
@@ -193,7 +192,6 @@ unsafe fn enter(call: &Call, inputs: &[List], outs: &[List], answer: Words) -> u
             weighhare_encode(c, cl, v, vl, z, zl, o, ol, t, tl, answer),
         (Operation::Evaluate, &[(c, cl), (t, tl), (m, ml)], &[(w, wl)]) =>
             weighhare_evaluate(c, cl, t, tl, m, ml, w, wl, answer),
-        #[cfg(evaluate_gates)]
         (Operation::EvaluateGates, &[(g, gl), (t, tl), (m, ml)], &[(w, wl)]) =>
             weighhare_evaluate_gates(call.n, call.m, g, gl / interface::GATE, t, tl, m, ml, w, wl, answer),
         (Operation::Decode, &[(c, cl), (t, tl), (m, ml)], &[(b, bl)]) =>

@@ -20,7 +20,6 @@ use second::call::{Call, Operation};
 use second::cases::{self, Asked};
 use second::generate::damage::damaged_call;
 use second::generate::{edges, limits, mixed};
-use second::interface;
 use second::random::Random;
 
 use coverage::Coverage;
@@ -28,11 +27,6 @@ use options::Options;
 
 /// A part prints so many of its failures at most.
 const MOST_SHOWN: usize = 5;
-
-/// Whether the archive has the operation.
-fn has(operation: Operation) -> bool {
-    operation != Operation::EvaluateGates || cfg!(evaluate_gates)
-}
 
 /// The run so far.
 struct Run {
@@ -120,9 +114,7 @@ impl Run {
         let stored = cases::read(include_str!("../../data/base.jsonl")).expect("readable cases");
         for case in &stored {
             if let Asked::Call { call, .. } = &case.asked {
-                if has(call.operation) {
-                    self.call(call, 0, || format!("stored case {}", case.id));
-                }
+                self.call(call, 0, || format!("stored case {}", case.id));
             }
         }
     }
@@ -144,13 +136,11 @@ impl Run {
         println!("random: {number} cases of seed {seed}");
     }
 
-    /// One random case, unless the archive lacks its operation.
+    /// One random case.
     fn random_case(&mut self, number: u64, again: &str) {
         let call = mixed::case(self.options.seed, number);
-        if has(call.operation) {
-            let again = || format!("random case, run again by {again}");
-            self.call(&call, number as usize % 16, again);
-        }
+        let again = || format!("random case, run again by {again}");
+        self.call(&call, number as usize % 16, again);
     }
 
     /// The random case asked for, with its arguments.
@@ -166,12 +156,6 @@ impl Run {
             println!("NOT MET: {missing}");
             self.failures += 1;
         }
-        for operation in Operation::ALL {
-            if !has(operation) {
-                let name = interface::name(operation);
-                println!("coverage: {name}: not in the archive, nothing compared");
-            }
-        }
     }
 }
 
@@ -180,12 +164,9 @@ fn main() -> ExitCode {
         eprintln!("{}", options::USAGE);
         return ExitCode::from(2);
     };
-    let operations = Operation::ALL
-        .into_iter()
-        .filter(|&operation| has(operation));
     let mut run = Run {
         options,
-        operations: operations.collect(),
+        operations: Operation::ALL.to_vec(),
         coverage: Coverage::default(),
         failures: 0,
         passed: 0,
