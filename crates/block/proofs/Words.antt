@@ -5,7 +5,7 @@ use Prim.Native.Nat.{ℕ, zero, suc, _+_, _-_, _*_, _/_, _%_, _^_, _<_}
 use native.Mathlib.Nat.{add-mul, mul-assoc, mul-comm}
 use native.Mathlib.Omega.{arith}
 use lib.Arith.{digits-div}
-use lib.Bits.{bitAnd, bitOr, bitXor, or-shifted, xor-shr, xor-mod, xor-zero-r}
+use lib.Bits.{bitOr, bitXor, or-shifted, xor-shr, xor-mod, xor-zero-r}
 use lib.ListN.{getD, length}
 use lib.Pow.{shr-shr}
 use Rattle.model.specs.Bytes.{tabulate, number, bytesOf}

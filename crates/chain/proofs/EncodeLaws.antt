@@ -1,5 +1,5 @@
 -- `encode_on`: the two lists that encode gets, what it leaves for evaluate, and a law for each return. Assumes nothing.
-use Prim.Native.Nat.{ℕ, _+_, _*_, _≤_}
+use Prim.Native.Nat.{ℕ, _*_}
 use native.Mathlib.Omega.{arith}
 use mathlib.Core.Path.{_≡_, sym}
 use mathlib.Core.List.{List}

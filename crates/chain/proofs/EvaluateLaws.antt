@@ -1,5 +1,5 @@
 -- `evaluate_on`: the tokens that evaluate gets, what it leaves for decode, and a law for each return. Assumes nothing.
-use Prim.Native.Nat.{ℕ, _+_, _*_, _≤_}
+use Prim.Native.Nat.{ℕ, _*_}
 use native.Mathlib.Omega.{arith}
 use mathlib.Core.Path.{_≡_, sym}
 use mathlib.Core.List.{List}

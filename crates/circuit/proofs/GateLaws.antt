@@ -1,16 +1,15 @@
 -- One gate: a law for each return of `gate_at`, `read_gate` and `read_record`. Assumes nothing.
-use Prim.Native.Nat.{ℕ, _+_, _*_, _≤_, _<_}
-use native.Mathlib.Omega.{arith}
-use mathlib.Core.Path.{_≡_, refl, sym, ap, _∙_}
-use mathlib.Core.Bool.{Bool, true, false, not, _&&_}
+use Prim.Native.Nat.{ℕ, _+_, _≤_, _<_}
+use mathlib.Core.Path.{_≡_, _∙_}
+use mathlib.Core.Bool.{Bool, true, false}
 use mathlib.Core.List.{List}
 use borrow.Author.Tests.{lt-ltb, le-ltb, le-leb, lt-leb, eq-eqb, ne-eqb}
-use lib.ListN.{length, getD}
+use lib.ListN.{getD}
 use Rattle.model.specs.declared.Gate.{Gate}
 use Rattle.model.specs.Bytes.{be16}
 use Rattle.model.specs.Circuit.{kindOf, charge, markAt, recordAt, gateAt, gateWire, operandsHold}
-use Rattle.model.specs.Refusals.{Verdict, fine, refused, refuse, _then_, isRefused, gateVerdict, recordVerdict}
-use Rattle.model.specs.Operations.{Answer, no, yes}
+use Rattle.model.specs.Refusals.{refused, refuse, _then_, isRefused, gateVerdict, recordVerdict}
+use Rattle.model.specs.Operations.{no, yes}
 use Rattle.circuit.specs.Answers.{gateOf, gateAnswer, recordAnswer}
 use Rattle.circuit.specs.declared.gates.GateRead.{GateRead}
 

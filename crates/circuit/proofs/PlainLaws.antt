@@ -2,9 +2,8 @@
 use Prim.Native.Nat.{ℕ, _+_, _≤_, _<_}
 use native.Mathlib.Decide.{decLt}
 use native.Mathlib.Omega.{arith}
-use mathlib.Core.Path.{_≡_, refl, sym, ap, _∙_}
-use mathlib.Core.List.{List, _++_}
-use mathlib.Core.Bool.{not}
+use mathlib.Core.Path.{_≡_, sym, ap, _∙_}
+use mathlib.Core.List.{List}
 use borrow.Author.Tests.{lt-ltb, le-ltb, eq-eqb, ne-eqb, ltb-false, eqb-true, not-false}
 use lib.ListN.{length, getD, take, List·getD-eq-default}
 use lib.Seq.{take-at}
@@ -15,13 +14,13 @@ use Rattle.model.specs.declared.Refusal.{Refusal}
 use Rattle.model.specs.declared.Checked.{Checked}
 use Rattle.model.specs.Bytes.{tabulate, over}
 use Rattle.model.specs.Circuit.{inputs, gates, gateAt, circuitOf, plainValues, gateValue}
-use Rattle.model.specs.Refusals.{Verdict, fine, refused, refuse, _then_, verdictOf, circuitVerdict, valueVerdict, bitsVerdict, roomVerdict}
-use Rattle.model.specs.Operations.{Answer, no, yes, sizesOf, checkedOf, checkAnswer, plainVerdict, PlainIs}
+use Rattle.model.specs.Refusals.{fine, refused, refuse, _then_, verdictOf, circuitVerdict, valueVerdict, bitsVerdict, roomVerdict}
+use Rattle.model.specs.Operations.{no, yes, sizesOf, checkedOf, checkAnswer, plainVerdict, PlainIs}
 use Rattle.model.proofs.Accepted.{accepted-header}
 use Rattle.model.proofs.Lists.{tabulate-length}
 use Rattle.model.proofs.Buffers.{over-length, over-over}
 use Rattle.model.proofs.Circuits.{wires-length}
-use Rattle.model.proofs.Verdicts.{Given, yes-given, Turned, no-turned, no-then, no-other, then-fine, refuse-fine, first-each}
+use Rattle.model.proofs.Verdicts.{Given, yes-given, Turned, no-turned, then-fine, refuse-fine, first-each}
 use Rattle.circuit.specs.Answers.{AllBits, bitsOf, readyOf, plainReady, PlainStart}
 use Rattle.circuit.specs.declared.values.Bits.{Bits}
 use Rattle.circuit.specs.declared.values.Ready.{Ready}

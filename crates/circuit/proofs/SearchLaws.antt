@@ -1,17 +1,16 @@
 -- The search over the gate records: its invariant, its turns and its ends. Assumes nothing.
-use Prim.Native.Nat.{ℕ, zero, suc, _+_, _≤_, _<_}
+use Prim.Native.Nat.{ℕ, _+_, _≤_, _<_}
 use native.Mathlib.Numerals.{add-one}
 use native.Mathlib.Omega.{arith}
-use mathlib.Core.Path.{_≡_, refl, sym, ap, _∙_}
-use mathlib.Core.List.{List, [], _∷_, _++_}
+use mathlib.Core.Path.{_≡_, refl}
+use mathlib.Core.List.{List}
 use mir.Syntax.{w64}
 use mir.Val.{Fits}
-use Rattle.model.specs.declared.Gate.{Gate}
 use Rattle.model.specs.declared.Refusal.{Refusal}
 use Rattle.model.specs.Bytes.{tabulate}
 use Rattle.model.specs.Circuit.{kindOf, charge, charges, gateAt}
-use Rattle.model.specs.Refusals.{Verdict, fine, refused, verdictOf, firstOf, recordVerdict, gatesVerdict}
-use Rattle.model.specs.Operations.{Answer, no, yes}
+use Rattle.model.specs.Refusals.{fine, verdictOf, firstOf, recordVerdict, gatesVerdict}
+use Rattle.model.specs.Operations.{no, yes}
 use Rattle.model.proofs.Lists.{tabulate-snoc}
 use Rattle.model.proofs.Circuits.{charge-le, charges-snoc}
 use Rattle.model.proofs.Verdicts.{Given, yes-given, no-turned, Turned, first-next, first-found}

@@ -1,16 +1,16 @@
 -- The value list, and the plain values of the gates: the invariants, turns and ends of their loops. Assumes nothing.
-use Prim.Native.Nat.{ℕ, zero, suc, _+_, _*_, _-_, _%_, _≤_, _<_}
+use Prim.Native.Nat.{ℕ, zero, suc, _+_, _*_, _-_, _≤_, _<_}
 use native.Mathlib.Numerals.{add-one}
 use native.Mathlib.Omega.{arith}
 use mathlib.Core.Path.{_≡_, refl, sym, ap, _∙_}
 use mathlib.Core.List.{List, [], _∷_, _++_}
 use borrow.Author.Tests.{lt-ltb, le-ltb}
-use lib.ListN.{length, getD, take, drop, set, length-set, take-append-drop}
+use lib.ListN.{length, getD, take, set, length-set, take-append-drop}
 use lib.Seq.{length-take-le}
 use Rattle.model.specs.declared.Gate.{Gate}
 use Rattle.model.specs.Bytes.{tabulate, over}
 use Rattle.model.specs.Circuit.{value, wires, gateValue, circuitOf, plainValues, inputs, gates, gateAt, gateWire}
-use Rattle.model.specs.Refusals.{Verdict, fine, refused, refuse, _then_, firstOf, valueVerdict, bitsVerdict}
+use Rattle.model.specs.Refusals.{fine, refused, refuse, firstOf, valueVerdict, bitsVerdict}
 use Rattle.model.proofs.Accepted.{HeaderHolds, GateHolds, accepted-header, accepted-gate}
 use Rattle.model.proofs.Lists.{tabulate-snoc, tabulate-length}
 use Rattle.model.proofs.Buffers.{over-get, over-set}

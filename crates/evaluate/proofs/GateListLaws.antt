@@ -16,14 +16,14 @@ use Rattle.model.specs.declared.Refusal.{Refusal}
 use Rattle.model.specs.declared.Refusal.the-variants.{Limits, TokensLength, Room}
 use Rattle.model.specs.declared.Ran.{Ran}
 use Rattle.model.specs.declared.Evaluated.{Evaluated}
-use Rattle.model.specs.Bytes.{tabulate, over}
-use Rattle.model.specs.Circuit.{circuitOf, inputs, outputs, gates, gateAt, gateWire, kindOf, charge, charges, sizesHold}
+use Rattle.model.specs.Bytes.{over}
+use Rattle.model.specs.Circuit.{circuitOf, inputs, gates, gateAt, kindOf, charge, sizesHold}
 use Rattle.aes.specs.Tables.{IsTTables}
 use Rattle.model.specs.Aes.{keyExpansion, fixedKey}
 use Rattle.model.specs.Garbling.{schemeOf}
 use Rattle.model.specs.Material.{rowsStored}
-use Rattle.model.specs.Refusals.{Verdict, fine, refused, refuse, _then_, firstOf, numberOf, placeOf, verdictOf, headVerdict, gateVerdict, recordVerdict, gatesVerdict, circuitVerdict, tokensVerdict, materialVerdict, roomVerdict, isCharged, rowStart, rowRecordAt, rowVerdict}
-use Rattle.model.specs.Operations.{no, yes, answer, sizesOf, ranOf, evaluatedOf, evaluateVerdict, evaluateCallsOf, EvaluateIs}
+use Rattle.model.specs.Refusals.{fine, refused, refuse, _then_, firstOf, numberOf, placeOf, verdictOf, headVerdict, gateVerdict, recordVerdict, gatesVerdict, circuitVerdict, tokensVerdict, materialVerdict, roomVerdict, isCharged, rowStart, rowRecordAt, rowVerdict}
+use Rattle.model.specs.Operations.{answer, sizesOf, ranOf, evaluatedOf, evaluateVerdict, EvaluateIs}
 use Rattle.model.proofs.Lists.{tabulate-snoc}
 use Rattle.model.proofs.Circuits.{charge-le, charges-snoc}
 use Rattle.model.proofs.Verdicts.{then-fine, Given, yes-given, Turned, no-turned, first-next, first-found}
@@ -32,7 +32,7 @@ use Rattle.circuit.specs.declared.values.Ready.{Ready}
 use Rattle.circuit.specs.Answers.{gateOf, gateAnswer}
 use Rattle.material.specs.declared.records.Cursor.{Cursor}
 use Rattle.material.specs.declared.records.Step.{Step}
-use Rattle.material.specs.Answers.{Accepted, Filed, sizesVerdict, stepOf, passAnswer, lastAt}
+use Rattle.material.specs.Answers.{Accepted, sizesVerdict, stepOf, passAnswer, lastAt}
 use Rattle.material.proofs.SizeLaws.{limits, is-n, is-m, is-q}
 use Rattle.material.proofs.RowLaws.{row-first}
 use Rattle.material.proofs.RecordLaws.{Reading, at-turn, gate-passed, turn-next, turn-fault}

@@ -1,27 +1,24 @@
 -- The invariant of the walk over a list of gate records, with no word of the program logic: so many turns are left, the walk stands
 -- at w, and the buffer, which was o, is d. Assumes nothing.
 use Prim.Native.Nat.{ℕ, zero, suc, _+_, _*_, _≤_, _<_, _^_}
-use native.Mathlib.Nat.{not-suc-le-zero, le-of-suc-le-suc}
 use native.Mathlib.Omega.{arith}
-use mathlib.Core.Logic.{⊎-elim}
-use mathlib.Core.Path.{_≡_, refl, sym, ap, _∙_}
-use mathlib.Core.Bool.{Bool, true, false, not, _&&_}
+use mathlib.Core.Path.{_≡_, refl, sym, _∙_}
+use mathlib.Core.Bool.{Bool, true, false, not}
 use mathlib.Core.List.{List}
 use borrow.Author.Tests.{le-leb, lt-leb, lt-ltb, le-ltb, ltb-true, ltb-false}
-use lib.Dec.{leb, ltb}
+use lib.Dec.{ltb}
 use lib.ListN.{length, getD}
 use Rattle.model.specs.declared.Gate.{Gate}
-use Rattle.model.specs.declared.Sizes.{Sizes}
 use Rattle.model.specs.declared.Evaluated.{Evaluated}
 use Rattle.model.specs.declared.Refusal.the-variants.{Limits}
 use Rattle.model.specs.Bytes.{tabulate, over}
-use Rattle.model.specs.Circuit.{circuitOf, inputs, outputs, gates, gateAt, kindOf, charge, charges, sizesHold, circuitBytes}
+use Rattle.model.specs.Circuit.{circuitOf, inputs, gates, gateAt, kindOf, charge, charges, sizesHold, circuitBytes}
 use Rattle.model.specs.Material.{rowsStored, materialLength}
 use Rattle.model.specs.Refusals.{fine, refused, refuse, _then_, firstOf, headVerdict, circuitVerdict}
-use Rattle.model.specs.Operations.{evaluatedOf, evaluateVerdict, evaluateGatesVerdict, EvaluateIs, EvaluateGatesIs}
+use Rattle.model.specs.Operations.{evaluatedOf, evaluateVerdict, evaluateGatesVerdict, EvaluateGatesIs}
 use Rattle.model.proofs.Lists.{tabulate-length}
 use Rattle.model.proofs.Circuits.{charges-le}
-use Rattle.model.proofs.Accepted.{HeaderHolds, header-holds}
+use Rattle.model.proofs.Accepted.{header-holds}
 use Rattle.model.proofs.Records.{noGate, GateFits, inputs-made, outputs-made, gates-made, head-made, gate-made, mark-made}
 use Rattle.material.specs.Answers.{Accepted}
 use Rattle.material.proofs.SizeLaws.{limits, is-n, is-m, is-q, is-p, gates-many}

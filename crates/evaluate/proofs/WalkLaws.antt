@@ -13,8 +13,6 @@ use Rattle.model.specs.declared.Gate.{Gate}
 use Rattle.model.specs.Bytes.{tabulate, over, put}
 use Rattle.model.specs.Circuit.{circuitOf, inputs, gates, gateAt, gateWire, kindOf, charge, charges, wire}
 use Rattle.model.specs.Aes.{Block, block}
-use Rattle.model.specs.Scheme.{Scheme}
-use Rattle.model.specs.Garbling.{schemeOf}
 use Rattle.model.specs.Material.{joinBlocks, materialLength}
 use Rattle.model.specs.Evaluation.{cut, openAt, openStep, run, evaluate, evaluateBytes, tokenAt}
 use Rattle.model.proofs.Accepted.{HeaderHolds, GateHolds, accepted-header, accepted-gate}
@@ -27,7 +25,7 @@ use Rattle.model.proofs.Lengths.{run-blocks}
 use Rattle.model.proofs.OneMore.{run-snoc}
 use Rattle.model.proofs.Schemes.{scheme-sound, rows-stored}
 use Rattle.evaluate.specs.declared.gate.Opened.{Opened}
-use Rattle.evaluate.specs.Gate.{GateRoom, OpenedIs}
+use Rattle.evaluate.specs.Gate.{OpenedIs}
 use Rattle.evaluate.specs.Walk.{TokenStart, TokenIs, StepStart, WalkStart, WiresStart, S, tokensTo, recordStart, Walking}
 
 -- ---- write_token

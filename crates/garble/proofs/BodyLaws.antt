@@ -1,18 +1,18 @@
 -- The gates and the last record: what the last record starts from, and the material whole. Assumes nothing.
-use Prim.Native.Nat.{ℕ, suc, _+_, _*_, _-_, _≤_, _<_}
+use Prim.Native.Nat.{ℕ, _+_, _*_, _-_, _≤_, _<_}
 use native.Mathlib.Nat.{mul-le-mul}
 use native.Mathlib.Omega.{arith}
 use mathlib.Core.Path.{_≡_, sym, ap, _∙_}
 use mathlib.Core.List.{List, _∷_, _++_}
-use lib.ListN.{length, take, drop, length-append}
+use lib.ListN.{length, length-append}
 use mir.Syntax.{w64}
 use mir.Val.{Fits}
 use Rattle.model.specs.declared.Sizes.{Sizes}
 use Rattle.model.specs.Bytes.{tabulate, over, put}
 use Rattle.model.specs.Circuit.{charges, circuitOf, inputs, outputs, gates, gateAt, lastWires, wire}
 use Rattle.model.specs.Aes.{Block, block}
-use Rattle.model.specs.Tokens.{Garbling, garblingOf, colour, inputZeros}
-use Rattle.model.specs.Garbling.{schemeOf, zeroTokens}
+use Rattle.model.specs.Tokens.{garblingOf, colour, inputZeros}
+use Rattle.model.specs.Garbling.{zeroTokens}
 use Rattle.model.specs.Material.{joinBlocks, header, records, lastRecord, material}
 use Rattle.model.specs.Evaluation.{tokenAt}
 use Rattle.model.specs.Operations.{sizesOf}
@@ -22,7 +22,7 @@ use Rattle.model.proofs.Buffers.{over-length, over-put}
 use Rattle.model.proofs.Blocks.{Blocks, join-length, join-at}
 use Rattle.model.proofs.Accepted.{HeaderHolds, accepted-header}
 use Rattle.model.proofs.Lengths.{zero-tokens-blocks, header-length, records-length}
-use Rattle.garble.specs.Walk.{WalkOf, GatesStart, GatesIs, LastStart, BodyStart, BodyIs}
+use Rattle.garble.specs.Walk.{WalkOf, GatesIs, LastStart, BodyStart, BodyIs}
 use Rattle.garble.proofs.ChargedLaws.{rows-within}
 
 module _ (c seed : List ℕ) (scheme n r : ℕ) (R : Block) (w : List ℕ) (walk : WalkOf c seed scheme n r R w)

@@ -1,20 +1,18 @@
 -- A charged gate in the buffers. Assumes nothing.
-use Prim.Native.Nat.{ℕ, _+_, _*_, _≤_, _<_}
+use Prim.Native.Nat.{ℕ, _≤_}
 use native.Mathlib.Omega.{arith}
-use mathlib.Core.Path.{_≡_, refl, sym, ap, _∙_}
-use mathlib.Core.List.{List, [], _∷_, _++_}
+use mathlib.Core.Path.{_≡_, refl, _∙_}
+use mathlib.Core.List.{List}
 use mathlib.Core.Bool.{Bool, true, false, cond}
 use borrow.Author.Tests.{ne-eqb, eqb-true, eqb-false}
 use lib.Dec.{eqb}
-use lib.ListN.{length, take}
-use Rattle.model.specs.Bytes.{put, two}
+use Rattle.model.specs.Bytes.{put}
 use Rattle.model.specs.Aes.{Block, block, cipher}
 use Rattle.model.specs.Scheme as Model
 use Rattle.model.specs.Gax.{dualKey, valueAt, sealed, rowAt, gax}
 use Rattle.model.specs.Gaxr.{reducedZero, gaxr}
 use Rattle.model.specs.HalfGates.{hash, halfA, halfB, rowG, rowE, joined, halfZero, half}
 use Rattle.model.specs.Garbling.{schemeOf}
-use Rattle.model.specs.Material.{joinBlocks}
 use Rattle.scheme.specs.Garbled.{site, GarbledIs}
 use Rattle.scheme.specs.declared.Site.{Site}
 use Rattle.scheme.specs.declared.GarbledGate.{GarbledGate}

@@ -1,6 +1,5 @@
 -- Encode: what the answer of `encode_ready` tells, and the buffer that encode leaves. Assumes nothing.
-use Prim.Native.Nat.{ℕ, _+_, _*_, _≤_, _<_}
-use native.Mathlib.Omega.{arith}
+use Prim.Native.Nat.{ℕ}
 use mathlib.Core.Path.{_≡_, sym, ap, _∙_}
 use mathlib.Core.List.{List}
 use borrow.Author.Tests.{ltb-false, eqb-true, not-false}
@@ -11,7 +10,7 @@ use Rattle.model.specs.Bytes.{over}
 use Rattle.model.specs.Circuit.{inputs, circuitOf}
 use Rattle.model.specs.Material.{joinBlocks}
 use Rattle.model.specs.Evaluation.{cut, encode, encodeBytes}
-use Rattle.model.specs.Refusals.{Verdict, fine, verdictOf, tokensVerdict, roomVerdict}
+use Rattle.model.specs.Refusals.{fine, verdictOf, tokensVerdict, roomVerdict}
 use Rattle.model.specs.Operations.{sizesOf, encodeVerdict, EncodeIs}
 use Rattle.model.proofs.Verdicts.{Given, yes-given, Turned, no-turned, then-fine, refuse-fine}
 use Rattle.circuit.specs.Answers.{readyOf}

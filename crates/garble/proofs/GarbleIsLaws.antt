@@ -1,5 +1,5 @@
 -- Garble: what the answer of `garble_ready` tells, and what garble answers and leaves. Assumes nothing.
-use Prim.Native.Nat.{ℕ, _+_, _*_, _≤_, _<_}
+use Prim.Native.Nat.{ℕ, _*_, _≤_}
 use native.Mathlib.Nat.{mul-comm}
 use native.Mathlib.Omega.{arith}
 use mathlib.Core.Path.{_≡_, refl, sym, ap, ap₂, _∙_}
@@ -17,8 +17,8 @@ use Rattle.model.specs.Gaxr.{gaxr}
 use Rattle.model.specs.HalfGates.{hash, half}
 use Rattle.model.specs.Garbling.{schemeOf}
 use Rattle.model.specs.Material.{materialLength}
-use Rattle.model.specs.Refusals.{Verdict, fine, verdictOf, circuitVerdict, seedVerdict, schemeVerdict, roomVerdict}
-use Rattle.model.specs.Operations.{Answer, no, yes, answer, sizesOf, garbleVerdict, made, garbleMade, calls, GarbleIs}
+use Rattle.model.specs.Refusals.{fine, verdictOf, seedVerdict, schemeVerdict, roomVerdict}
+use Rattle.model.specs.Operations.{no, yes, sizesOf, garbleVerdict, made, garbleMade, GarbleIs}
 use Rattle.model.proofs.Verdicts.{Given, yes-given, Turned, no-turned, then-fine, refuse-fine, and-both}
 use Rattle.model.proofs.Lists.{tabulate-length}
 use Rattle.model.proofs.Accepted.{accepted-header}

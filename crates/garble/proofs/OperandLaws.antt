@@ -1,12 +1,11 @@
 -- A gate's operands: what their reads ask, and what was read. Assumes nothing.
 use Prim.Native.Nat.{ℕ, _+_, _*_, _-_, _≤_, _<_}
 use native.Mathlib.Omega.{arith}
-use mathlib.Core.Path.{_≡_, refl, ap, _∙_}
+use mathlib.Core.Path.{_≡_, ap, _∙_}
 use mathlib.Core.List.{List}
 use lib.ListN.{length, take, drop}
 use Rattle.model.specs.declared.Gate.{Gate}
-use Rattle.model.specs.Circuit.{inputs, gates, gateAt, gateWire}
-use Rattle.model.specs.Aes.{Block}
+use Rattle.model.specs.Circuit.{inputs, gateAt, gateWire}
 use Rattle.model.specs.Evaluation.{tokenAt}
 use Rattle.model.proofs.Accepted.{HeaderHolds, GateHolds, accepted-header, accepted-gate}
 use Rattle.garble.specs.Walk.{OperandsStart, GateInIs}

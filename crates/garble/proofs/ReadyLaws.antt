@@ -13,7 +13,7 @@ use Rattle.model.specs.declared.Checked.{Checked}
 use Rattle.model.specs.Circuit.{inputs, outputs, gates, charges, circuitOf}
 use Rattle.model.specs.Material.{materialLength}
 use Rattle.model.specs.Refusals.{Verdict, fine, refused, refuse, _then_, verdictOf, circuitVerdict, seedVerdict, bitsVerdict, tokensVerdict, schemeVerdict, roomVerdict}
-use Rattle.model.specs.Operations.{Answer, no, yes, answer, sizesOf, checkedOf, checkAnswer, garbleVerdict, encodeVerdict}
+use Rattle.model.specs.Operations.{no, yes, answer, sizesOf, checkedOf, checkAnswer, garbleVerdict, encodeVerdict}
 use Rattle.model.proofs.Verdicts.{Given, yes-given, Turned, no-turned}
 use Rattle.circuit.specs.Answers.{bitsOf, readyOf}
 use Rattle.circuit.specs.declared.values.Bits.{Bits}

@@ -1,26 +1,23 @@
 -- One gate of the walk: what it starts from, by its kind, and what it leaves. Assumes nothing.
 use Prim.Native.Nat.{ℕ, suc, _+_, _*_, _-_, _≤_, _<_}
-use native.Mathlib.Numerals.{add-one}
 use native.Mathlib.Nat.{one-mul, zero-mul, add-mul, add-zero, mul-le-mul, mul-le-mul-right}
 use native.Mathlib.Omega.{arith}
-use mathlib.Core.Path.{_≡_, refl, sym, ap, ap₂, _∙_}
-use mathlib.Core.List.{List, [], _∷_, _++_}
-use lib.ListN.{length, take, drop, take-append-drop}
-use Rattle.model.specs.declared.Gate.{Gate}
+use mathlib.Core.Path.{_≡_, sym, ap, _∙_}
+use mathlib.Core.List.{List}
+use lib.ListN.{length, drop, take-append-drop}
 use Rattle.model.specs.declared.Truth.{Truth}
 use Rattle.model.specs.declared.Kind as Kinds
-use Rattle.model.specs.Bytes.{tabulate, put, two}
-use Rattle.model.specs.Circuit.{value, Kind, charged, free, refused, kindOf, charge, charges, circuitOf, inputs, outputs, gates, gateAt, gateWire, wire, wires}
-use Rattle.model.specs.Aes.{Block, block, cipher, keyExpansion, aes}
-use Rattle.model.specs.Tokens.{Garbling, garblingOf, seedBlock, offset, inputZeros, freeZero}
-use Rattle.model.specs.Scheme.{Site}
-use Rattle.model.specs.Garbling.{schemeOf, siteOf, zeroAt, zeroStep}
-use Rattle.model.specs.Material.{joinBlocks, recordOf}
+use Rattle.model.specs.Bytes.{tabulate, put}
+use Rattle.model.specs.Circuit.{value, Kind, charged, free, refused, kindOf, charges, circuitOf, inputs, gates, gateAt, gateWire, wire}
+use Rattle.model.specs.Aes.{Block, block, aes}
+use Rattle.model.specs.Tokens.{Garbling, garblingOf, seedBlock, freeZero}
+use Rattle.model.specs.Garbling.{siteOf, zeroAt, zeroStep}
+use Rattle.model.specs.Material.{recordOf}
 use Rattle.model.specs.Evaluation.{tokenAt}
 use Rattle.model.proofs.Lists.{tabulate-length}
 use Rattle.model.proofs.Circuits.{charges-le, charges-among}
 use Rattle.model.proofs.Buffers.{put-none}
-use Rattle.model.proofs.Codes.{Used, used-charged, used-free, FreeTable, Means, code-means}
+use Rattle.model.proofs.Codes.{Used, used-charged, used-free, FreeTable, code-means}
 use Rattle.model.proofs.Bits.{Bit, b0, b1}
 use Rattle.model.proofs.Blocks.{Blocks, blocks-length, join-at}
 use Rattle.model.proofs.Lengths.{input-zeros-blocks, zeros-blocks}

@@ -1,24 +1,22 @@
 -- The walk over the gates: its invariant, its turn and its end. Assumes nothing.
-use Prim.Native.Nat.{ℕ, zero, suc, _+_, _*_, _-_, _≤_, _<_}
+use Prim.Native.Nat.{ℕ, _+_, _*_, _≤_, _<_}
 use native.Mathlib.Numerals.{add-one}
-use native.Mathlib.Nat.{add-zero, add-mul, mul-le-mul-right}
+use native.Mathlib.Nat.{add-mul, mul-le-mul-right}
 use native.Mathlib.Omega.{arith}
 use mathlib.Core.Path.{_≡_, refl, sym, ap, _∙_}
-use mathlib.Core.List.{List, [], _∷_, _++_, append-assoc, append-nil}
+use mathlib.Core.List.{List, _++_, append-assoc, append-nil}
 use lib.ListN.{length, take, drop, length-append, take-append-drop}
 use lib.Seq.{take-at}
-use Rattle.model.specs.declared.Gate.{Gate}
-use Rattle.model.specs.Bytes.{tabulate, over, put}
-use Rattle.model.specs.Circuit.{kindOf, charge, charges, circuitOf, inputs, outputs, gates, gateAt, wires}
+use Rattle.model.specs.Bytes.{tabulate, over}
+use Rattle.model.specs.Circuit.{kindOf, charge, charges, circuitOf, inputs, gates, gateAt, wires}
 use Rattle.model.specs.Aes.{Block}
-use Rattle.model.specs.Tokens.{Garbling, garblingOf, inputZeros}
-use Rattle.model.specs.Garbling.{schemeOf, siteOf, zeroStep, zeroTokens}
+use Rattle.model.specs.Tokens.{garblingOf, inputZeros}
+use Rattle.model.specs.Garbling.{siteOf, zeroStep, zeroTokens}
 use Rattle.model.specs.Material.{joinBlocks, header, recordOf, records}
 use Rattle.model.proofs.Lists.{tabulate-snoc}
 use Rattle.model.proofs.Circuits.{charges-snoc, charges-among, wires-snoc}
-use Rattle.model.proofs.Buffers.{over-put, over-length, put-length}
-use Rattle.model.proofs.Blocks.{Blocks, join-length}
-use Rattle.model.proofs.Gates.{recordLength}
+use Rattle.model.proofs.Buffers.{over-put, put-length}
+use Rattle.model.proofs.Blocks.{join-length}
 use Rattle.model.proofs.Lengths.{input-zeros-blocks, zero-step-wide, header-length, record-length, records-length}
 use Rattle.model.proofs.OneMore.{records-snoc}
 use Rattle.garble.specs.Walk.{zerosTo, WalkOf, StepStart, StepIs, GatesStart, GatesIs}

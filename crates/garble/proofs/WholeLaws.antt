@@ -1,15 +1,15 @@
 -- A whole garbling: what its parts start from, and that together they leave the defined bytes. Assumes nothing.
-use Prim.Native.Nat.{ℕ, _+_, _*_, _≤_, _<_}
+use Prim.Native.Nat.{ℕ, _+_, _*_, _≤_}
 use native.Mathlib.Omega.{arith}
-use mathlib.Core.Path.{_≡_, refl, sym, ap, ap₂, _∙_}
-use mathlib.Core.List.{List, [], _∷_, _++_}
+use mathlib.Core.Path.{_≡_, sym, ap, _∙_}
+use mathlib.Core.List.{List}
 use lib.ListN.{length, take, drop}
 use lib.Seq.{take-all, take-at}
 use Rattle.model.specs.declared.Sizes.{Sizes}
-use Rattle.model.specs.Bytes.{tabulate, over, two}
-use Rattle.model.specs.Circuit.{charges, circuitOf, inputs, outputs, gates, gateAt, lastWires}
-use Rattle.model.specs.Aes.{Block, _⊕_, block, cipher, keyExpansion, aes}
-use Rattle.model.specs.Tokens.{Garbling, garblingOf, coloured, seedBlock, offset, inputZeros, oneToken}
+use Rattle.model.specs.Bytes.{over}
+use Rattle.model.specs.Circuit.{charges, circuitOf, inputs, outputs, gates, lastWires}
+use Rattle.model.specs.Aes.{Block, block, cipher, keyExpansion, aes}
+use Rattle.model.specs.Tokens.{garblingOf, coloured, seedBlock, offset, inputZeros, oneToken}
 use Rattle.model.specs.Garbling.{schemeOf, zeroTokens, inputOnes}
 use Rattle.model.specs.Material.{joinBlocks, rowsStored, materialLength, header, material}
 use Rattle.model.specs.Operations.{sizesOf}
@@ -18,8 +18,7 @@ use Rattle.model.proofs.Buffers.{over-length, over-over}
 use Rattle.model.proofs.Blocks.{join-length}
 use Rattle.model.proofs.Schemes.{rows-stored}
 use Rattle.model.proofs.Lengths.{input-zeros-blocks, zero-tokens-blocks, header-length, material-length}
-use Rattle.garble.specs.Written.{InputsIs}
-use Rattle.garble.specs.Walk.{WalkOf, GatesStart, FrontStart, FrontIs, BodyStart, BodyIs}
+use Rattle.garble.specs.Walk.{WalkOf, FrontStart, FrontIs, BodyStart, BodyIs}
 use Rattle.garble.specs.Whole.{WholeStart, WholeIs}
 
 module _ (c seed : List ℕ) (scheme : ℕ) (s : Sizes) (m z o : List ℕ) (start : WholeStart c seed scheme s m z o) where

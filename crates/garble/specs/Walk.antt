@@ -3,13 +3,12 @@ use Prim.Native.Nat.{ℕ, _+_, _*_, _≤_, _<_}
 use mathlib.Core.Path.{_≡_}
 use mathlib.Core.List.{List, [], _∷_, _++_}
 use lib.ListN.{length, take}
-use Rattle.model.specs.declared.Gate.{Gate}
 use Rattle.model.specs.declared.Sizes.{Sizes}
 use Rattle.model.specs.Bytes.{tabulate, over, put, two}
 use Rattle.model.specs.Circuit.{charged, charge, charges, kindOf, circuitOf, inputs, outputs, gates, gateAt, gateWire, wires}
 use Rattle.model.specs.Aes.{Block, block, cipher, keyExpansion}
-use Rattle.model.specs.Tokens.{Garbling, garblingOf, offset, inputZeros}
-use Rattle.model.specs.Scheme.{Site, Scheme}
+use Rattle.model.specs.Tokens.{garblingOf, offset, inputZeros}
+use Rattle.model.specs.Scheme.{Site}
 use Rattle.model.specs.Garbling.{schemeOf, siteOf, zeroStep, zeroTokens}
 use Rattle.model.specs.Material.{joinBlocks, header, recordOf, records, material}
 use Rattle.model.specs.Evaluation.{tokenAt}

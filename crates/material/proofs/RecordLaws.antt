@@ -13,7 +13,7 @@ use Rattle.model.specs.declared.Kind.{Kind}
 use Rattle.model.specs.declared.Sizes.{Sizes}
 use Rattle.model.specs.declared.Refusal.{Refusal}
 use Rattle.model.specs.declared.Wire.{Wire}
-use Rattle.model.specs.Circuit.{circuitOf, gates, gateAt, codeAt, kindOf, charge}
+use Rattle.model.specs.Circuit.{circuitOf, gates, gateAt, kindOf, charge}
 use Rattle.model.specs.Material.{rowsStored}
 use Rattle.model.specs.Refusals.{fine, refused, refuse, verdictOf, firstOf, isCharged, rowStart, rowRecordAt, rowVerdict}
 use Rattle.model.specs.Operations.{no, yes}

@@ -12,9 +12,9 @@ use Rattle.model.specs.Aes.{Block, block}
 use Rattle.model.specs.Tokens.{Garbling, offset, inputZeros}
 use Rattle.model.specs.Garbling.{zeroStep, zeroTokens, inputOnes}
 use Rattle.model.specs.Material.{joinBlocks, material}
-use Rattle.model.specs.Evaluation.{cut, encode, evaluate, decode, encodeBytes, evaluateBytes, decodeBytes, tokenAt, outputTokens}
+use Rattle.model.specs.Evaluation.{encode, evaluate, decode, encodeBytes, evaluateBytes, decodeBytes, tokenAt, outputTokens}
 use Rattle.model.specs.Demand3.{Allowed, chained, chainMaterial, chainZeros, chainOnes, chainInputs, chainTokens, chainBits, carries, distanceAt, Demand3, OnlyRoom}
-use Rattle.model.specs.Refusals.{fine, refuse, _then_, circuitVerdict, seedVerdict, valueVerdict, bitsVerdict, tokensVerdict, schemeVerdict, materialVerdict, roomVerdict}
+use Rattle.model.specs.Refusals.{fine, refuse, _then_, seedVerdict, valueVerdict, bitsVerdict, tokensVerdict, schemeVerdict, materialVerdict}
 use Rattle.model.specs.Operations.{garbleVerdict, encodeVerdict, evaluateVerdict, decodeVerdict}
 use Rattle.model.proofs.Lists.{tabulate-length}
 use Rattle.model.proofs.Tokens.{offset-is}

@@ -3,22 +3,21 @@ use Prim.Native.Nat.{ℕ, zero, suc, _+_, _*_, _/_, _%_, _≤_, _<_}
 use native.Mathlib.Omega.{arith}
 use mathlib.Core.Path.{_≡_, refl, sym, ap, _∙_}
 use mathlib.Core.List.{List, [], _∷_, _++_, map, append-assoc}
-use mathlib.Core.Bool.{Bool, true, false, not, _&&_}
+use mathlib.Core.Bool.{true, not, _&&_}
 use borrow.Author.Tests.{le-ltb, le-leb, eq-eqb}
-use lib.ListN.{length, getD, take, drop, length-append, length-map}
+use lib.ListN.{length, getD, take, drop, length-append}
 use lib.Seq.{split-at, getD-append-seam, getD-append-add, length-take-le, take-length}
 use Rattle.model.specs.declared.Gate.{Gate}
 use Rattle.model.specs.Bytes.{be16, two}
-use Rattle.model.specs.Circuit.{Circuit, Kind, charged, free, refused, kindOf, charges, codeAt, markAt, gateWire, wire, wires}
+use Rattle.model.specs.Circuit.{Kind, charged, free, refused, kindOf, charges, codeAt, markAt, gateWire, wire, wires}
 use Rattle.model.specs.Aes.{Block, block}
 use Rattle.model.specs.Tokens.{Garbling, colour, inputZeros}
 use Rattle.model.specs.Garbling.{schemeOf, siteOf, zeroStep, zeroTokens}
-use Rattle.model.specs.Material.{rowsStored, materialLength, joinBlocks, header, recordOf, records, lastRecord, material}
-use Rattle.model.specs.Refusals.{Verdict, fine, refuse, _then_, firstOf, isCharged, schemeVerdict, rowStart, fileVerdict, rowRecordAt, rowVerdict, lastVerdict, materialVerdict}
+use Rattle.model.specs.Material.{rowsStored, materialLength, header, recordOf, records, lastRecord, material}
+use Rattle.model.specs.Refusals.{fine, refuse, _then_, isCharged, schemeVerdict, rowStart, fileVerdict, rowRecordAt, rowVerdict, lastVerdict, materialVerdict}
 use Rattle.model.proofs.Verdicts.{first-all}
 use Rattle.model.proofs.Circuits.{wires-length}
 use Rattle.model.proofs.Blocks.{blocks-length}
-use Rattle.model.proofs.Gates.{recordLength}
 use Rattle.model.proofs.Schemes.{rows-stored}
 use Rattle.model.proofs.Lengths.{input-zeros-blocks, header-length, records-length, material-length}
 

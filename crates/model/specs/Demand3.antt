@@ -1,10 +1,10 @@
 -- Demand 3: the chain of garble, encode, evaluate and decode is right on every wire. Document 01, "Operations".
-use Prim.Native.Nat.{ℕ, _+_, _*_, _≤_, _<_}
+use Prim.Native.Nat.{ℕ, _+_, _*_, _≤_}
 use mathlib.Core.Path.{_≡_}
 use mathlib.Core.Logic.{_↔_}
 use mathlib.Core.List.{List, map}
 use lib.ListN.{length, getD, take}
-use Rattle.model.specs.Circuit.{Circuit, charges, circuitOf, inputs, outputs, gates, wire, plainValues}
+use Rattle.model.specs.Circuit.{charges, circuitOf, inputs, outputs, gates, wire, plainValues}
 use Rattle.model.specs.Aes.{Block, block}
 use Rattle.model.specs.Tokens.{Garbling, garblingOf, distance, offset}
 use Rattle.model.specs.Garbling.{zeroTokens, inputOnes}

@@ -5,7 +5,7 @@ use mathlib.Core.List.{List, map}
 use lib.Dec.{eqb}
 use lib.ListN.{length}
 use Rattle.model.specs.declared.Gate.{Gate}
-use Rattle.model.specs.Circuit.{Circuit, Kind, charged, free, refused, kindOf, wire, wires}
+use Rattle.model.specs.Circuit.{Kind, charged, free, refused, kindOf, wire, wires}
 use Rattle.model.specs.Aes.{Block, block}
 use Rattle.model.specs.Tokens.{Garbling, seedBlock, offset, inputZeros, oneToken, freeZero}
 use Rattle.model.specs.Scheme.{Scheme, Site}

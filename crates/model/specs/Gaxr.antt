@@ -1,6 +1,6 @@
 -- Document 01, "Scheme 2, GaXR", over any dual-key cipher E.
 use Prim.Native.Nat.{ℕ}
-use mathlib.Core.List.{List, [], _∷_}
+use mathlib.Core.List.{[], _∷_}
 use Rattle.model.specs.Aes.{Block, _⊕_, block, times}
 use Rattle.model.specs.Scheme.{Site, Scheme}
 use Rattle.model.specs.Gax.{valueAt, sealed, rowAt, openRow}

@@ -1,6 +1,6 @@
 -- Document 01, "Scheme 3, half-gates", over any tweakable hash H. The steps are those of Zahur, Rosulek and Evans (2015).
 use Prim.Native.Nat.{ℕ, _+_, _-_, _*_}
-use mathlib.Core.List.{List, [], _∷_}
+use mathlib.Core.List.{[], _∷_}
 use lib.ListN.{getD}
 use Rattle.model.specs.Circuit.{Kind, charged, free, refused, kindOf}
 use Rattle.model.specs.Aes.{Block, _⊕_, block, times, double, π}

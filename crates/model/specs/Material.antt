@@ -4,10 +4,10 @@ use mathlib.Core.List.{List, [], _∷_, _++_, map}
 use lib.ListN.{length, getD}
 use Rattle.model.specs.declared.Gate.{Gate}
 use Rattle.model.specs.Bytes.{two}
-use Rattle.model.specs.Circuit.{Circuit, Kind, charged, free, refused, kindOf, wire}
+use Rattle.model.specs.Circuit.{Kind, charged, free, refused, kindOf, wire}
 use Rattle.model.specs.Aes.{Block, block}
 use Rattle.model.specs.Tokens.{Garbling, colour, inputZeros}
-use Rattle.model.specs.Scheme.{Scheme, Site}
+use Rattle.model.specs.Scheme.{Site}
 use Rattle.model.specs.Garbling.{schemeOf, siteOf, zeroStep, zeroTokens}
 
 -- blocks, one after the other

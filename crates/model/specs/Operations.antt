@@ -12,8 +12,8 @@ use Rattle.model.specs.declared.Garbled.{Garbled}
 use Rattle.model.specs.declared.Evaluated.{Evaluated}
 use Rattle.model.specs.declared.Gate.{Gate}
 use Rattle.model.specs.Bytes.{over}
-use Rattle.model.specs.Circuit.{Circuit, kindOf, charge, charges, circuitOf, inputs, outputs, gates, circuitBytes, plainValues}
-use Rattle.model.specs.Tokens.{Garbling, garblingOf}
+use Rattle.model.specs.Circuit.{kindOf, charge, charges, circuitOf, inputs, outputs, gates, circuitBytes, plainValues}
+use Rattle.model.specs.Tokens.{garblingOf}
 use Rattle.model.specs.Garbling.{schemeOf, zeroTokens, inputOnes}
 use Rattle.model.specs.Material.{materialLength, joinBlocks, material}
 use Rattle.model.specs.Evaluation.{encodeBytes, evaluateBytes, decodeBytes, tokenAt}
