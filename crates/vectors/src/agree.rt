@@ -1,21 +1,17 @@
 // Whether a case agrees with the proved functions: its arguments, and what must come of them, are the fields of its line.
-use crate::answer::done;
+use crate::answer::done_sizes;
+use crate::answer::ran;
 use crate::answer::refused;
-use crate::answer::word;
 use crate::chained::chain_run;
-use crate::evaluator::decode_run;
-use crate::evaluator::evaluate_run;
-use crate::garbler::encode_run;
 use crate::garbler::garble_run;
 use crate::garbler::pick_run;
-use crate::listed::list_run;
+use crate::single::single_run;
 use aes::encrypt;
 use aes::expand_key;
 use aes::s_box;
 use block::Block;
 use check::same;
 use model::Checked;
-use model::Ran;
 
 // The 16 bytes of a field; of a field of another length, none agrees with anything.
 fn block_of(field: &[u8]) -> Block {
@@ -47,27 +43,14 @@ fn doubling(a: &[u8], twice: &[u8], four: &[u8]) -> bool {
     let x = block_of(a);
     let y = x.doubled().bytes;
     let z = x.quadrupled().bytes;
-    same(&y, twice) && same(&z, four)
+    same(&y, twice) & same(&z, four)
 }
 
 // Circuit, and the answer: 00 and n, m, q, p of 4 bytes each, or the refusal.
 fn checking(circuit: &[u8], answer: &[u8]) -> bool {
     match circuit::check(circuit) {
         Checked::Refused(f) => refused(f, answer),
-        Checked::Accepted(z) => {
-            let n = word(z.n);
-            let m = word(z.m);
-            let q = word(z.q);
-            let p = word(z.p);
-            if answer.len() != 17 {
-                return false;
-            }
-            answer[0] == 0
-                && same(&n, &answer[1..5])
-                && same(&m, &answer[5..9])
-                && same(&q, &answer[9..13])
-                && same(&p, &answer[13..17])
-        }
+        Checked::Accepted(z) => done_sizes(z, answer),
     }
 }
 
@@ -84,11 +67,8 @@ fn plain_leaves(
         return false;
     }
     buffer::copy_front(before, wires);
-    let agreed = match circuit::plain(circuit, values, wires) {
-        Ran::Refused(f) => refused(f, answer),
-        Ran::Done => done(answer),
-    };
-    agreed && same(wires, after)
+    let r = circuit::plain(circuit, values, wires);
+    ran(r, answer) & same(wires, after)
 }
 
 // Circuit, values, the buffer before, the answer, and the buffer after.
@@ -108,7 +88,8 @@ fn plain_run(
 }
 
 // By group: 1 encryption, 2 key expansion, 3 doubling, 4 check, 5 plain, 6 garble, 7 encode, 8 pick, 10 evaluate,
-// 11 decode, 12 the chain, 13 evaluate's list form. What an operation writes goes to `work`, and garble's tokens to `zeros` and `ones`.
+// 11 decode, 12 the chain, 13 evaluate's list form. What an operation writes goes to `work`, and garble's tokens to `zeros` and
+// `ones`.
 pub fn agrees<'a>(
     group: u8,
     a: &'a [u8],
@@ -129,12 +110,9 @@ pub fn agrees<'a>(
         4 => checking(a, b),
         5 => plain_run(a, b, c, d, e, work),
         6 => garble_run(a, b, c, d, e, f, g, work, zeros, ones),
-        7 => encode_run(a, b, c, d, e, f, g, work),
+        7 => single_run(group, a, b, c, d, e, f, g, work),
         8 => pick_run(a, b, c, d, e),
-        10 => evaluate_run(a, b, c, d, e, f, work),
-        11 => decode_run(a, b, c, d, e, f, work),
         12 => chain_run(a, b, c, d, e, f, g, work, zeros, ones),
-        13 => list_run(a, b, c, d, e, f, work),
-        _ => false,
+        _ => single_run(group, a, b, c, d, d, e, f, work),
     }
 }

@@ -1,23 +1,16 @@
-// Numbers as a case has them, 4 bytes, big-endian; and the answer of an operation: 00 and its numbers, or the refusal's
-// number, of 1 byte, and its place.
+// Numbers as a case has them, big-endian, of 4 bytes where nothing else is said; and the answer of an operation: 00 and its numbers,
+// or the refusal's number, of 1 byte, and its place. Tests are joined by `&` and not by `&&`: a function without branches takes the
+// prover less time.
 ghost use Prim.Native.Nat.{_+_, _<_, _≤_};
 ghost use lib.ListN.{length};
 use buffer::read16;
 use check::same;
 use circuit::refusal::number_and_place;
 use model::Evaluated;
+use model::Garbled;
 use model::Ran;
 use model::Refusal;
-
-// A number as 4 bytes.
-pub fn word(n: usize) -> [u8; 4] {
-    [
-        (n / 16777216 % 256) as u8,
-        (n / 65536 % 256) as u8,
-        (n / 256 % 256) as u8,
-        (n % 256) as u8,
-    ]
-}
+use model::Sizes;
 
 // The number of the 2 bytes at an index.
 pub fn short_at(s: &[u8], at: usize) -> usize
@@ -46,18 +39,20 @@ pub fn room_at(s: &[u8], at: usize, most: usize) -> usize
 
 // Whether an answer is that refusal.
 pub fn refused(f: Refusal, answer: &[u8]) -> bool {
+    if answer.len() != 5 {
+        return false;
+    }
     let t = number_and_place(f);
-    let p = word(t.place);
-    let given = [t.number, p[0], p[1], p[2], p[3]];
-    same(&given, answer)
+    (answer[0] == t.number) & (word_at(answer, 1) == t.place)
 }
 
 // Whether an answer is that refusal by one of the chain's calls, whose place among them, 1 to 4, comes first.
 pub fn refused_by(call: u8, f: Refusal, answer: &[u8]) -> bool {
+    if answer.len() != 6 {
+        return false;
+    }
     let t = number_and_place(f);
-    let p = word(t.place);
-    let given = [call, t.number, p[0], p[1], p[2], p[3]];
-    same(&given, answer)
+    (answer[0] == call) & (answer[1] == t.number) & (word_at(answer, 2) == t.place)
 }
 
 // Whether an answer is 00 and no number.
@@ -66,18 +61,31 @@ pub fn done(answer: &[u8]) -> bool {
 }
 
 // Whether an answer is 00 and a number: calls of π.
-pub fn done_calls(calls: usize, answer: &[u8]) -> bool {
-    let p = word(calls);
-    let given = [0, p[0], p[1], p[2], p[3]];
-    same(&given, answer)
+fn done_calls(calls: usize, answer: &[u8]) -> bool {
+    if answer.len() != 5 {
+        return false;
+    }
+    (answer[0] == 0) & (word_at(answer, 1) == calls)
 }
 
-// Whether an answer is 00 and two numbers.
-pub fn done_with(x: usize, y: usize, answer: &[u8]) -> bool {
-    let p = word(x);
-    let q = word(y);
-    let given = [0, p[0], p[1], p[2], p[3], q[0], q[1], q[2], q[3]];
-    same(&given, answer)
+// Whether an answer is 00 and two numbers: a material's length, and calls of π.
+fn done_with(len: usize, calls: usize, answer: &[u8]) -> bool {
+    if answer.len() != 9 {
+        return false;
+    }
+    (answer[0] == 0) & (word_at(answer, 1) == len) & (word_at(answer, 5) == calls)
+}
+
+// Whether an answer is 00 and a circuit's sizes.
+pub fn done_sizes(z: Sizes, answer: &[u8]) -> bool {
+    if answer.len() != 17 {
+        return false;
+    }
+    let n = word_at(answer, 1) == z.n;
+    let m = word_at(answer, 5) == z.m;
+    let q = word_at(answer, 9) == z.q;
+    let p = word_at(answer, 13) == z.p;
+    (answer[0] == 0) & n & m & q & p
 }
 
 // Whether an answer is that of an operation whose only results are bytes.
@@ -85,6 +93,14 @@ pub fn ran(r: Ran, answer: &[u8]) -> bool {
     match r {
         Ran::Refused(f) => refused(f, answer),
         Ran::Done => done(answer),
+    }
+}
+
+// Whether an answer is that of garble.
+pub fn garbled(g: Garbled, answer: &[u8]) -> bool {
+    match g {
+        Garbled::Refused(f) => refused(f, answer),
+        Garbled::Done { length, calls } => done_with(length, calls, answer),
     }
 }
 

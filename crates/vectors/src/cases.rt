@@ -65,8 +65,7 @@ fn run_line(
 {
     let k = read_fields(text, at, fields);
     if group == LARGE {
-        let whole = k.g == 86;
-        return whole && large_run(fields, work, zeros, ones);
+        return large_run(k.g, fields, work, zeros, ones);
     }
     run_case(group, fields, k, work, zeros, ones)
 }

@@ -2,7 +2,7 @@
 // generator's start of 4), the seed, the scheme, the answer (00, the length and the calls), and the fingerprints of the
 // material, the zero tokens and the one tokens. No such case is refused.
 ghost use Prim.Native.Nat.{_<_};
-use crate::answer::done_with;
+use crate::answer::garbled;
 use crate::answer::short_at;
 use crate::answer::word_at;
 use crate::fill::fill_three;
@@ -39,27 +39,24 @@ fn wrote(buf: &[u8], len: usize, case: &[u8; 86], at: usize) -> bool
     }
     let made = fingerprint(&buf[..len]).bytes;
     let due = load(case, at).bytes;
-    same(&made, &due) && filled(&buf[len..], BEFORE)
+    same(&made, &due) & filled(&buf[len..], BEFORE)
 }
 
-// Whether what garble answered and wrote is what the case has.
-fn garbled_is(
-    case: &[u8; 86],
-    len: usize,
-    calls: usize,
-    material: &[u8],
-    zeros: &[u8],
-    ones: &[u8],
-) -> bool {
+// Whether garble answered what the case has.
+fn answered(g: Garbled, case: &[u8; 86]) -> bool {
+    let all = &case[..];
+    garbled(g, &all[29..38])
+}
+
+// Whether garble wrote what the case has.
+fn all_wrote(case: &[u8; 86], material: &[u8], zeros: &[u8], ones: &[u8]) -> bool {
     let r = rule_of(case);
     let wires = r.n + r.q;
-    let zeros_len = 16 * wires;
-    let ones_len = 16 * r.n;
-    let all = &case[..];
-    done_with(len, calls, &all[29..38])
-        && wrote(material, len, case, 38)
-        && wrote(zeros, zeros_len, case, 54)
-        && wrote(ones, ones_len, case, 70)
+    let len = word_at(case, 30);
+    let material_wrote = wrote(material, len, case, 38);
+    let zeros_wrote = wrote(zeros, 16 * wires, case, 54);
+    let ones_wrote = wrote(ones, 16 * r.n, case, 70);
+    material_wrote & zeros_wrote & ones_wrote
 }
 
 // Garble on the circuit that a case's rule made.
@@ -72,20 +69,19 @@ fn garble_made(
 ) -> bool {
     fill_three(work, zeros, ones, BEFORE);
     let seed = load(case, 12).bytes;
-    match garble::garble(circuit, &seed, case[28], work, zeros, ones) {
-        Garbled::Refused(_) => false,
-        Garbled::Done { length, calls } => garbled_is(case, length, calls, work, zeros, ones),
-    }
+    let g = garble::garble(circuit, &seed, case[28], work, zeros, ones);
+    answered(g, case) & all_wrote(case, work, zeros, ones)
 }
 
-// The case at the front of a buffer; the circuit then takes its place there.
-pub fn large_run(fields: &mut [u8], work: &mut [u8], zeros: &mut [u8], ones: &mut [u8]) -> bool {
-    if fields.len() < 86 {
-        return false;
-    }
-    let mut case = [0u8; 86];
-    buffer::copy_front(&fields[..86], &mut case);
-    let r = rule_of(&case);
+// The case whose circuit is to be made in a buffer.
+fn large_case(
+    case: &[u8; 86],
+    fields: &mut [u8],
+    work: &mut [u8],
+    zeros: &mut [u8],
+    ones: &mut [u8],
+) -> bool {
+    let r = rule_of(case);
     let end = 8 + 7 * r.q;
     if r.n < 2 {
         return false;
@@ -94,5 +90,24 @@ pub fn large_run(fields: &mut [u8], work: &mut [u8], zeros: &mut [u8], ones: &mu
         return false;
     }
     put_circuit(fields, r);
-    garble_made(&case, &fields[..end], work, zeros, ones)
+    garble_made(case, &fields[..end], work, zeros, ones)
+}
+
+// The case of `len` bytes at the front of a buffer; the circuit then takes its place there.
+pub fn large_run(
+    len: usize,
+    fields: &mut [u8],
+    work: &mut [u8],
+    zeros: &mut [u8],
+    ones: &mut [u8],
+) -> bool {
+    if len != 86 {
+        return false;
+    }
+    if fields.len() < 86 {
+        return false;
+    }
+    let mut case = [0u8; 86];
+    buffer::copy_front(&fields[..86], &mut case);
+    large_case(&case, fields, work, zeros, ones)
 }

@@ -8,7 +8,6 @@ mod agree;
 mod answer;
 mod cases;
 mod chained;
-mod evaluator;
 mod fill;
 mod fingerprint;
 mod garbler;
@@ -17,6 +16,7 @@ mod line;
 mod listed;
 mod room;
 mod rule;
+mod single;
 
 // ": N of M agree", and the end of the line.
 fn print_tally(t: Tally) {
@@ -41,25 +41,40 @@ fn run_file(group: u8, path: &[u8]) {
     print_tally(run(group, &text[..len]));
 }
 
-fn main() {
+// Outside vectors, and 01's examples.
+fn run_outside() {
     run_file(1, b"fips197-encryption");
     run_file(2, b"fips197-key-expansion");
     run_file(3, b"doubling");
     run_file(4, b"examples");
+}
+
+// Cases of a third reading of 01.
+fn run_stored() {
     run_file(4, b"check");
     run_file(5, b"plain");
     run_file(6, b"garble");
     run_file(7, b"encode");
     run_file(8, b"pick");
     run_file(10, b"evaluate");
+    run_file(13, b"evaluate-gates");
     run_file(11, b"decode");
+}
+
+// Cases of the second implementation.
+fn run_generated() {
     run_file(6, b"garble-generated");
     run_file(7, b"encode-generated");
     run_file(8, b"pick-generated");
     run_file(10, b"evaluate-generated");
-    run_file(11, b"decode-generated");
-    run_file(13, b"evaluate-gates");
     run_file(13, b"evaluate-gates-generated");
+    run_file(11, b"decode-generated");
     run_file(12, b"chain-generated");
     run_file(9, b"garble-large");
+}
+
+fn main() {
+    run_outside();
+    run_stored();
+    run_generated();
 }

@@ -16,3 +16,10 @@ pub fn half() -> [u8; 524288]
 {
     [0; 524288]
 }
+
+// A buffer of the chain: every byte is the one given.
+pub fn filled(value: u8) -> [u8; 65536]
+    ensures { λ r. ⌜ 65536 ≡ length r ⌝ }
+{
+    [value; 65536]
+}

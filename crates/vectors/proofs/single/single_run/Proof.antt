@@ -2,11 +2,11 @@ use borrow.Author.Needs.{needs}
 use lib.Seq.{length-take-le}
 use mathlib.Core.Path.{sym}
 use native.Mathlib.Omega.{arith}
-use Rattle.vectors.proofs.evaluator.decode_run.Statement.{statement}
-use Rattle.vectors.proofs.evaluator.decode_run.Tie as tie
+use Rattle.vectors.proofs.single.single_run.Statement.{statement}
+use Rattle.vectors.proofs.single.single_run.Tie as tie
 
-pub decode-run-spec : {M : Type 1} → statement M
-decode-run-spec =
+pub single-run-spec : {M : Type 1} → statement M
+single-run-spec =
     tie.close
     (tie.spec (λ c. search needs) (λ c κs. search needs) (λ c. search needs) (λ c. search needs)
     (λ c. sym (length-take-le _ _ (omega arith))) (λ c κs. search needs) (λ c. search needs)
