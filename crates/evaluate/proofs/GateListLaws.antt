@@ -40,7 +40,7 @@ use Rattle.material.proofs.MaterialLaws.{by-record, by-last, material-file, fil
 use Rattle.evaluate.specs.declared.list.Walk.{Walk}
 use Rattle.evaluate.specs.Answers.{restVerdict}
 use Rattle.evaluate.specs.Walk.{TokenIs, WiresStart, Walking}
-use Rattle.evaluate.specs.GateList.{Ended, GoesTo, Begun, GateIs, Tried, Checked, Written, Stands, TriedLeads, TryLeads, CheckedLeads, CheckLeads, WriteLeads, VisitLeads, Few, Checks, Writes, Visits}
+use Rattle.evaluate.specs.GateList.{Ended, GoesTo, Begun, GateIs, Tried, Checked, Written, Stands, TriedLeads, TryLeads, CheckedLeads, CheckLeads, WriteLeads, Few, Checks, Writes}
 use Rattle.evaluate.proofs.ReadyLaws.{evaluate-verdict}
 use Rattle.evaluate.proofs.WalkLaws.{walk-start, walk-turn, walk-end, wires-walk, wires-done}
 use Rattle.evaluate.proofs.EvaluateLaws.{evaluate-start, evaluate-done}
@@ -74,51 +74,51 @@ pub ruleset begin-cases = (begun-many, begun-limits, begun-first)
 -- ---- where the walk stands
 
 module _ (c ts s o : List ℕ) (left : ℕ) (w : Walk) (d : List ℕ) where
-  -- it ended
-  ends : w .going ≡ false → EvaluateIs c ts s o (evaluatedOf (w .answer)) d → Stands c ts s o left w d
+  -- it is over
+  ends : w .pass ≡ 3 → EvaluateIs c ts s o (evaluatedOf (w .answer)) d → Stands c ts s o left w d
   ends e is = record {
-    more = λ t. neither e t;
-    passes = λ t. neither e t;
-    pass-0 = λ t _. neither e t;
-    pass-1 = λ t _. neither e t;
-    pass-2 = λ t _. neither e t;
+    passes = omega (arith, e);
+    more = λ h. absurd (omega (arith, e));
+    pass-0 = λ h. absurd (omega (arith, e));
+    pass-1 = λ h. absurd (omega (arith, e));
+    pass-2 = λ h. absurd (omega (arith, e));
     ended = λ _. is;
   }
 
   -- with a refusal
   pub refuses : (f : Refusal) → Ended (Evaluated.Refused f) w → d ≡ o → evaluateVerdict c ts s (length o) ≡ verdictOf f → Stands c ts s o left w d
-  refuses f e u v = ends (e .stopped) (record { answered = rw (e .answered, v); left = rw v u })
+  refuses f e u v = ends (e .over) (record { answered = rw (e .answered, v); left = rw v u })
 
   -- it goes on, in one of the passes
   module _ (k : ℕ) (z : Sizes) (here : Cursor) (more : k < gates c) where
     pub goes-0 : GoesTo 0 k z here w → Tried c o left k z d → Stands c ts s o left w d
     goes-0 g t = record {
+      passes = omega (arith, g .is-pass);
       more = λ _. rw (g .is-k) more;
-      passes = λ _. omega (arith, g .is-pass);
-      pass-0 = λ _ _. rw (g .is-k, g .is-z) t;
-      pass-1 = λ _ e. absurd (omega (arith, g .is-pass));
-      pass-2 = λ _ e. absurd (omega (arith, g .is-pass));
-      ended = λ e. neither e (g .going);
+      pass-0 = λ _. rw (g .is-k, g .is-z) t;
+      pass-1 = λ e. absurd (omega (arith, g .is-pass));
+      pass-2 = λ e. absurd (omega (arith, g .is-pass));
+      ended = λ e. absurd (omega (arith, g .is-pass));
     }
 
     goes-1 : GoesTo 1 k z here w → Checked c ts s o left k z (here .at) d → Stands c ts s o left w d
     goes-1 g t = record {
+      passes = omega (arith, g .is-pass);
       more = λ _. rw (g .is-k) more;
-      passes = λ _. omega (arith, g .is-pass);
-      pass-0 = λ _ e. absurd (omega (arith, g .is-pass));
-      pass-1 = λ _ _. rw (g .is-k, g .is-z, g .is-here) t;
-      pass-2 = λ _ e. absurd (omega (arith, g .is-pass));
-      ended = λ e. neither e (g .going);
+      pass-0 = λ e. absurd (omega (arith, g .is-pass));
+      pass-1 = λ _. rw (g .is-k, g .is-z, g .is-here) t;
+      pass-2 = λ e. absurd (omega (arith, g .is-pass));
+      ended = λ e. absurd (omega (arith, g .is-pass));
     }
 
     goes-2 : GoesTo 2 k z here w → Written c ts s o left k z (here .at) d → Stands c ts s o left w d
     goes-2 g t = record {
+      passes = omega (arith, g .is-pass);
       more = λ _. rw (g .is-k) more;
-      passes = λ _. omega (arith, g .is-pass);
-      pass-0 = λ _ e. absurd (omega (arith, g .is-pass));
-      pass-1 = λ _ e. absurd (omega (arith, g .is-pass));
-      pass-2 = λ _ _. rw (g .is-k, g .is-z, g .is-here) t;
-      ended = λ e. neither e (g .going);
+      pass-0 = λ e. absurd (omega (arith, g .is-pass));
+      pass-1 = λ e. absurd (omega (arith, g .is-pass));
+      pass-2 = λ _. rw (g .is-k, g .is-z, g .is-here) t;
+      ended = λ e. absurd (omega (arith, g .is-pass));
     }
 
 -- ---- evaluate's verdict where a gate has a fault
@@ -282,6 +282,7 @@ pub ruleset try-cases = (try-counts, try-few, try-fine, try-fault)
 module _ (ts s : List ℕ) (k : ℕ) (z : Sizes) (there : Cursor) (d : List ℕ) (r : Walk) where
   pub checked-next : k + 1 < z .q → GoesTo 1 (k + 1) z there r → CheckedLeads ts s k z (there .at) d r d
   checked-next h g = record {
+    on = omega (arith, g .is-pass);
     leads = λ c o left t. goes-1 c ts s o left r d (k + 1) z there (omega (arith, is-q c z (t .known .circuit))) g t;
   }
 
@@ -295,6 +296,7 @@ module _ (ts s : List ℕ) (k : ℕ) (z : Sizes) (there : Cursor) (d : List ℕ)
 
     pub checked-last : (f : Refusal) → u ≡ Ran.Refused f → Ended (Evaluated.Refused f) r → CheckedLeads ts s k z (there .at) d r d
     checked-last f i e = record {
+      on = omega (arith, e .over);
       leads = λ c o left t.
           refuses c ts s o left r d f e (t .untouched)
           (verdict-material c ts s (length o) (t .known .circuit .accepted) (t .tokens) f (rw i at (all-checked c o left t)));
@@ -303,6 +305,7 @@ module _ (ts s : List ℕ) (k : ℕ) (z : Sizes) (there : Cursor) (d : List ℕ)
     module _ (i : u ≡ Ran.Done) where
       pub checked-room : length d < 16 * (z .n + z .q) → Ended (Evaluated.Refused (Room (16 * (z .n + z .q)))) r → CheckedLeads ts s k z (there .at) d r d
       checked-room h e = record {
+        on = omega (arith, e .over);
         leads = λ c o left t.
             let k = t .known .circuit in
             let v = verdict-room c ts s (length o) (k .accepted) (t .tokens) (rw i at (all-checked c o left t))
@@ -313,6 +316,7 @@ module _ (ts s : List ℕ) (k : ℕ) (z : Sizes) (there : Cursor) (d : List ℕ)
       pub checked-all : 16 * (z .n + z .q) ≤ length d → (d′ : List ℕ) → d′ ≡ over ts d → (here : Cursor) → here .at ≡ 9 → GoesTo 2 0 z here r
           → CheckedLeads ts s k z (there .at) d r d′
       checked-all h d′ is-d here at g = record {
+        on = omega (arith, g .is-pass);
         leads = λ c o left t.
             let k = t .known .circuit in
             let fit = verdict-fine c ts s (length o) (k .accepted) (t .tokens) (rw i at (all-checked c o left t))
@@ -379,11 +383,12 @@ module _ (ts s : List ℕ) (w : Walk) (g : Gate) (rows : ℕ) (is-rows : rows �
     module _ (d : List ℕ) (r : Walk) where
       pub check-fault : (f : Refusal) → u ≡ Step.Fault f → Ended (Evaluated.Refused f) r → CheckLeads ts s w g d r d
       check-fault f e is-r = record {
+        on = omega (arith, is-r .over);
         leads = λ c o left h is t. refuses c ts s o left r d f is-r (t .untouched) (stopped c o d left h is t f e);
       }
 
       pub check-next : (there : Cursor) → u ≡ Step.Next there → (d′ : List ℕ) → CheckedLeads ts s (w .k) (w .z) (there .at) d r d′ → CheckLeads ts s w g d r d′
-      check-next there e d′ next = record { leads = λ c o left h is t. next .leads c o left (past-gate c o d left h is t there e) }
+      check-next there e d′ next = record { on = next .on; leads = λ c o left h is t. next .leads c o left (past-gate c o d left h is t there e) }
 
 pub ruleset check-cases = (check-fault, check-next)
 
@@ -401,6 +406,7 @@ module _ (s : List ℕ) (w : Walk) (g : Gate) (d d′ : List ℕ) (there : Curso
 
   pub write-more : w .k + 1 < w .z .q → GoesTo 2 (w .k + 1) (w .z) there r → WriteLeads s w g d r d′
   write-more h goes = record {
+    on = omega (arith, goes .is-pass);
     leads = λ c ts o left more gate t.
         let known = accepted-by c ts s o (w .z) (t .sizes) (t .fit) in
         goes-2 c ts s o left r d′ (w .k + 1) (w .z) there (omega (arith, is-q c (w .z) known)) goes
@@ -410,50 +416,23 @@ module _ (s : List ℕ) (w : Walk) (g : Gate) (d d′ : List ℕ) (there : Curso
   pub write-last : w .z .q ≤ w .k + 1 → (calls : ℕ) → calls ≡ w .z .p * schemeOf (getD s 2 0) .evaluateCalls → Ended (Evaluated.Done calls) r
       → WriteLeads s w g d r d′
   write-last h calls is-calls e = record {
+    on = omega (arith, e .over);
     leads = λ c ts o left more gate t.
         let known = accepted-by c ts s o (w .z) (t .sizes) (t .fit) in
         let start = wires c ts s o (w .z) known (t .fit) in
         let all = walk-end c s _ _ (over ts o) (wires-walk c ts s _ _ o start (over ts o) refl) (w .k + 1) (there .at) d′ (one-more c ts o left more gate t)
         (omega (arith, is-q c (w .z) known)) in
         let left-is = wires-done c ts s _ _ o start (over ts o) refl d′ all in
-        ends c ts s o left r d′ (e .stopped)
+        ends c ts s o left r d′ (e .over)
         (rw (e .answered) (evaluate-done c ts s o (Ready.Go (w .z)) (rw (t .fit, ← t .sizes)) (w .z) refl calls is-calls d′ left-is));
   }
 
 pub ruleset write-cases = (write-more, write-last)
 
--- ---- visit
-module _ (ts s : List ℕ) (w : Walk) (g : Gate) (d : List ℕ) (r : Walk) where
-  pub visit-0 : w .pass ≡ 0 → TryLeads ts s w g r → VisitLeads ts s w g d r d
-  visit-0 e next = record { leads = λ c o left go is st. next .leads c o d left (st .more go) is (st .pass-0 go e) }
+-- what is lent
+module _ (t k s d : List ℕ) (w : Walk) (g : Gate) (asked : Writes t k s d w g) where
+  pub lent-t : IsTTables t
+  lent-t = asked .lent .is-t
 
-  module _ (d′ : List ℕ) where
-    pub visit-1 : w .pass ≡ 1 → CheckLeads ts s w g d r d′ → VisitLeads ts s w g d r d′
-    visit-1 e next = record { leads = λ c o left go is st. next .leads c o left (st .more go) is (st .pass-1 go e) }
-
-    pub visit-2 : (w .pass ≡ 0 → ⊥) → (w .pass ≡ 1 → ⊥) → WriteLeads s w g d r d′ → VisitLeads ts s w g d r d′
-    visit-2 h i next = record {
-      leads = λ c o left go is st. next .leads c ts o left (st .more go) is (st .pass-2 go (two (w .pass) h i (st .passes go)));
-    }
-      where
-        two : (p : ℕ) → (p ≡ 0 → ⊥) → (p ≡ 1 → ⊥) → p ≤ 2 → p ≡ 2
-        two p h i l = omega arith
-
--- what it asks, by the pass
-module _ (t k ts s d : List ℕ) (w : Walk) (g : Gate) (asked : Visits t k ts s d w g) where
-  pub asked-t : IsTTables t
-  asked-t = asked .lent .is-t
-
-  pub asked-k : k ≡ keyExpansion fixedKey
-  asked-k = asked .lent .is-k
-
-  pub asked-0 : w .pass ≡ 0 → Few (w .k) (w .z) (w .k)
-  asked-0 e = asked .pass-0 e
-
-  pub asked-1 : w .pass ≡ 1 → Checks ts s (w .k) (w .z) (w .here .at + charge (kindOf (g .code)) * (4 + 16 * rowsStored (getD s 2 0)))
-  asked-1 e = asked .pass-1 e
-
-  pub asked-2 : (w .pass ≡ 0 → ⊥) → (w .pass ≡ 1 → ⊥) → Writes s d w g
-  asked-2 h i = asked .pass-2 h i
-
-pub ruleset visit-cases = (visit-0, visit-1, visit-2, asked-0, asked-1)
+  pub lent-k : k ≡ keyExpansion fixedKey
+  lent-k = asked .lent .is-k

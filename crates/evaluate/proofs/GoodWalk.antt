@@ -5,13 +5,14 @@ use native.Mathlib.Omega.{arith}
 use mathlib.Core.Path.{_≡_, refl, sym, _∙_}
 use mathlib.Core.Bool.{Bool, true, false, not}
 use mathlib.Core.List.{List}
-use borrow.Author.Tests.{le-leb, lt-leb, lt-ltb, le-ltb, ltb-true, ltb-false}
-use lib.Dec.{ltb}
+use borrow.Author.Tests.{le-leb, lt-leb, lt-ltb, le-ltb, ltb-true, ltb-false, eq-eqb}
+use lib.Dec.{ltb, eqb}
 use lib.ListN.{length, getD}
 use Rattle.model.specs.declared.Gate.{Gate}
 use Rattle.model.specs.declared.Evaluated.{Evaluated}
 use Rattle.model.specs.declared.Refusal.the-variants.{Limits}
-use Rattle.model.specs.Bytes.{tabulate, over}
+use Rattle.model.specs.Bytes as B
+use Rattle.model.specs.Bytes.{tabulate}
 use Rattle.model.specs.Circuit.{circuitOf, inputs, gates, gateAt, kindOf, charge, charges, sizesHold, circuitBytes}
 use Rattle.model.specs.Material.{rowsStored, materialLength}
 use Rattle.model.specs.Refusals.{fine, refused, refuse, _then_, firstOf, headVerdict, circuitVerdict}
@@ -24,7 +25,7 @@ use Rattle.material.specs.Answers.{Accepted}
 use Rattle.material.proofs.SizeLaws.{limits, is-n, is-m, is-q, is-p, gates-many}
 use Rattle.material.proofs.RowLaws.{row-room, file-holds}
 use Rattle.evaluate.specs.declared.list.Walk.{Walk}
-use Rattle.evaluate.specs.GateList.{Lent, Ended, GoesTo, Begun, GateIs, Tried, Checked, Written, Stands, Few, Checks, Writes, Visits, VisitLeads}
+use Rattle.evaluate.specs.GateList.{Lent, Ended, GoesTo, Begun, GateIs, Stands, Few, Checks, Writes, TryLeads, CheckLeads, WriteLeads}
 use Rattle.evaluate.proofs.ReadyLaws.{evaluate-verdict}
 use Rattle.evaluate.proofs.WalkLaws.{walk-step, step-token, wires-walk}
 use Rattle.evaluate.proofs.GateListLaws.{neither, goes-0, refuses, accepted-by, wires}
@@ -37,20 +38,25 @@ by-pass (suc zero) h f g k = g refl
 by-pass (suc (suc zero)) h f g k = k refl
 by-pass (suc (suc (suc p))) h f g k = absurd (omega arith)
 
+-- not in pass j, which is no later than the walk's: in a later one
+pub later : (j p : ℕ) → j ≤ p → eqb p j ≡ false → suc j ≤ p
+later j p h e = let other : p ≡ j → ⊥ = λ i. neither e (eq-eqb p j i) in omega arith
+
 -- ---- what a turn asks, of any circuit
-module _ (c ts s o : List ℕ) (left : ℕ) (w : Walk) (d : List ℕ) (g : Gate) (st : Stands c ts s o left w d) (go : w .going ≡ true) (is : GateIs c (w .k) g) where
-  few-tried : Tried c o left (w .k) (w .z) d → Few (w .k) (w .z) (w .k)
-  few-tried t =
+module _ (c ts s o : List ℕ) (left : ℕ) (w : Walk) (d : List ℕ) (st : Stands c ts s o left w d) where
+  few-tried : w .pass ≡ 0 → Few (w .k) (w .z) (w .k)
+  few-tried e =
+      let t = st .pass-0 e in
       let held = header-holds c (t .head) .sizes in
       record {
-        more = omega (arith, st .more go, t .is-q);
+        more = omega (arith, st .more (omega (arith, e)), t .is-q);
         wires = omega (arith, held .sum, t .is-n, t .is-q);
         outputs-few = omega (arith, held .m-high, t .is-m, t .is-q);
         charged-few = rw (t .counted) (omega (arith, charges-le (tabulate (w .k) (gateAt c)), tabulate-length (w .k) (gateAt c)));
       }
 
-  few-accepted : Accepted c (w .z) → Few (w .k) (w .z) (w .z .q)
-  few-accepted known =
+  few-accepted : w .pass ≤ 2 → Accepted c (w .z) → Few (w .k) (w .z) (w .z .q)
+  few-accepted go known =
       let held = limits c (w .z) known .sizes in
       record {
         more = omega (arith, st .more go, is-q c (w .z) known);
@@ -59,44 +65,41 @@ module _ (c ts s o : List ℕ) (left : ℕ) (w : Walk) (d : List ℕ) (g : Gate)
         charged-few = omega (arith, is-p c (w .z) known, charges-le (circuitOf c .gates), gates-many c, is-q c (w .z) known);
       }
 
-  checks : Checked c ts s o left (w .k) (w .z) (w .here .at) d
-      → Checks ts s (w .k) (w .z) (w .here .at + charge (kindOf (g .code)) * (4 + 16 * rowsStored (getD s 2 0)))
-  checks t =
-      let known = t .known .circuit in
-      let file = file-holds c s (t .known .filed) in
-      record {
-        few = few-accepted known;
-        tokens = rw (is-n c (w .z) known) (t .tokens);
-        header = file .header;
-        room = rw (is .is-g, t .placed, is-m c (w .z) known) (row-room c s (file .whole) (w .k) (st .more go));
-      }
+  module _ (g : Gate) (is : GateIs c (w .k) g) where
+    checks : w .pass ≡ 1 → Checks ts s (w .k) (w .z) (w .here .at + charge (kindOf (g .code)) * (4 + 16 * rowsStored (getD s 2 0)))
+    checks e =
+        let t = st .pass-1 e in
+        let known = t .known .circuit in
+        let file = file-holds c s (t .known .filed) in
+        let go : w .pass ≤ 2 = omega (arith, e) in
+        record {
+          few = few-accepted go known;
+          tokens = rw (is-n c (w .z) known) (t .tokens);
+          header = file .header;
+          room = rw (is .is-g, t .placed, is-m c (w .z) known) (row-room c s (file .whole) (w .k) (st .more go));
+        }
 
-  writes : Written c ts s o left (w .k) (w .z) (w .here .at) d → Writes s d w g
-  unfolding materialLength
-  writes t =
-      let known = accepted-by c ts s o (w .z) (t .sizes) (t .fit) in
-      let start = wires-walk c ts s _ _ o (wires c ts s o (w .z) known (t .fit)) (over ts o) refl in
-      let step = walk-step c s _ _ (over ts o) start (w .k) (w .here .at) d (t .so-far) (st .more go) in
-      record {
-        few = few-accepted known;
-        header = omega (arith, start .whole);
-        start = rw (is-n c (w .z) known) (step-token (getD s 2 0) c (inputs c) (w .k) s (w .here .at) d step g (is .is-g));
-      }
-
-  asks : (t k : List ℕ) → Lent t k → Visits t k ts s d w g
-  asks t k lent = record {
-    lent = lent;
-    pass-0 = λ e. few-tried (st .pass-0 go e);
-    pass-1 = λ e. checks (st .pass-1 go e);
-    pass-2 = λ h i. writes (st .pass-2 go (by-pass (w .pass) (st .passes go) (λ e. absurd (h e)) (λ e. absurd (i e)) (λ e. e)));
-  }
+    writes : w .pass ≡ 2 → (t k : List ℕ) → Lent t k → Writes t k s d w g
+    unfolding materialLength
+    writes e t k lent =
+        let u = st .pass-2 e in
+        let known = accepted-by c ts s o (w .z) (u .sizes) (u .fit) in
+        let go : w .pass ≤ 2 = omega (arith, e) in
+        let start = wires-walk c ts s _ _ o (wires c ts s o (w .z) known (u .fit)) (B.over ts o) refl in
+        let step = walk-step c s _ _ (B.over ts o) start (w .k) (w .here .at) d (u .so-far) (st .more go) in
+        record {
+          lent = lent;
+          few = few-accepted go known;
+          header = omega (arith, start .whole);
+          start = rw (is-n c (w .z) known) (step-token (getD s 2 0) c (inputs c) (w .k) s (w .here .at) d step g (is .is-g));
+        }
 
 -- ---- a walk that goes on has turns left
-turns-left : (c ts s o : List ℕ) (w : Walk) (d : List ℕ) → Stands c ts s o zero w d → w .going ≡ true → ⊥
+turns-left : (c ts s o : List ℕ) (w : Walk) (d : List ℕ) → Stands c ts s o zero w d → w .pass ≤ 2 → ⊥
 turns-left c ts s o w d st go =
     let h = st .more go in
-    by-pass (w .pass) (st .passes go) (λ e. (let t = st .pass-0 go e .turns in omega arith)) (λ e. (let t = st .pass-1 go e .turns in omega arith))
-    (λ e. (let t = st .pass-2 go e .turns in omega arith))
+    by-pass (w .pass) go (λ e. (let t = st .pass-0 e .turns in omega arith)) (λ e. (let t = st .pass-1 e .turns in omega arith))
+    (λ e. (let t = st .pass-2 e .turns in omega arith))
 
 -- ---- the records gs, with n and m
 module _ (n m : ℕ) (gs : List Gate) (ts s o : List ℕ) where
@@ -114,8 +117,8 @@ module _ (n m : ℕ) (gs : List Gate) (ts s o : List ℕ) where
       go false e = f (ltb-false _ _ e)
 
   -- a walk that goes on has not too many records, and its gate is one of them
-  goes-few : (left : ℕ) (w : Walk) (d : List ℕ) → Good left w d → w .going ≡ true → length gs ≤ 65535
-  goes-few left w d good go = count (λ h. h) (λ h. neither (good .many h .stopped) go)
+  goes-few : (left : ℕ) (w : Walk) (d : List ℕ) → Good left w d → w .pass ≤ 2 → length gs ≤ 65535
+  goes-few left w d good go = count (λ h. h) (λ h. absurd (omega (arith, good .many h .over)))
 
   module _ (n-fits : n < 2 ^ 16) (m-fits : m < 2 ^ 16) where
     n-low : n ≤ 65535
@@ -169,32 +172,60 @@ module _ (n m : ℕ) (gs : List Gate) (ts s o : List ℕ) where
         first h true e = starts h e w (b .goes (rw (le-leb _ _ h, e)))
         first h false e = stops h e w (b .stops (rw (le-leb _ _ h, e)))
 
-    module _ (left : ℕ) (w : Walk) (d : List ℕ) (go : w .going ≡ true) where
-      pub within : Good left w d → w .k < length gs
-      within good = let h = goes-few left w d good go in rw (q-made h) at (good .few h .more go)
+    module _ (left : ℕ) (w : Walk) (d : List ℕ) (good : Good left w d) where
+      pub within : w .pass ≤ 2 → w .k < length gs
+      within go = let h = goes-few left w d good go in rw (q-made h) at (good .few h .more go)
 
-      gate-is : Good left w d → GateFits (getD gs (w .k) noGate) → GateIs (circuitBytes n m gs) (w .k) (getD gs (w .k) noGate)
-      gate-is good fits = record { is-g = sym (gate-made n m gs (w .k) (within good) fits); mark = mark-made n m gs (w .k) (within good) }
+      pub passes : w .pass ≤ 3
+      passes = count (λ h. good .few h .passes) (λ h. omega (arith, good .many h .over))
 
-      pub visits : Good left w d → GateFits (getD gs (w .k) noGate) → (t k : List ℕ) → Lent t k → Visits t k ts s d w (getD gs (w .k) noGate)
-      visits good fits =
-          asks (circuitBytes n m gs) ts s o left w d (getD gs (w .k) noGate) (good .few (goes-few left w d good go)) go (gate-is good fits)
+      gate-is : w .pass ≤ 2 → GateFits (getD gs (w .k) noGate) → GateIs (circuitBytes n m gs) (w .k) (getD gs (w .k) noGate)
+      gate-is go fits = record { is-g = sym (gate-made n m gs (w .k) (within go) fits); mark = mark-made n m gs (w .k) (within go) }
 
-    pub runs-out : (w : Walk) (d : List ℕ) → Good zero w d → w .going ≡ true → ⊥
+      -- what a turn of each pass asks
+      pub asks-0 : w .pass ≡ 0 → Few (w .k) (w .z) (w .k)
+      asks-0 e = few-tried (circuitBytes n m gs) ts s o left w d (good .few (goes-few left w d good (omega (arith, e)))) e
+
+      module _ (fits : GateFits (getD gs (w .k) noGate)) where
+        pub asks-1 : w .pass ≡ 1
+            → Checks ts s (w .k) (w .z) (w .here .at + charge (kindOf (getD gs (w .k) noGate .code)) * (4 + 16 * rowsStored (getD s 2 0)))
+        asks-1 e =
+            let go : w .pass ≤ 2 = omega (arith, e) in
+            checks (circuitBytes n m gs) ts s o left w d (good .few (goes-few left w d good go)) (getD gs (w .k) noGate) (gate-is go fits) e
+
+        pub asks-2 : w .pass ≡ 2 → (t k : List ℕ) → Lent t k → Writes t k s d w (getD gs (w .k) noGate)
+        asks-2 e =
+            let go : w .pass ≤ 2 = omega (arith, e) in
+            writes (circuitBytes n m gs) ts s o left w d (good .few (goes-few left w d good go)) (getD gs (w .k) noGate) (gate-is go fits) e
+
+    pub runs-out : (w : Walk) (d : List ℕ) → Good zero w d → w .pass ≤ 2 → ⊥
     runs-out w d good go = turns-left (circuitBytes n m gs) ts s o w d (good .few (goes-few zero w d good go)) go
 
-    pub nexts : (left : ℕ) (w : Walk) (d : List ℕ) → Good (suc left) w d → w .going ≡ true → GateFits (getD gs (w .k) noGate) → (r : Walk) (d′ : List ℕ)
-        → length d′ ≡ length d → VisitLeads ts s w (getD gs (w .k) noGate) d r d′ → Good left r d′
-    nexts left w d good go fits r d′ same leads =
-        let h = goes-few (suc left) w d good go in
-        record {
-          long = same ∙ good .long;
-          few = λ _. leads .leads (circuitBytes n m gs) o left go (gate-is (suc left) w d go good fits) (good .few h);
-          many = λ i. absurd (omega arith);
-          many-left = λ i. absurd (omega arith);
-        }
+    -- what a turn of each pass leaves
+    module _ (left : ℕ) (w : Walk) (d : List ℕ) (good : Good (suc left) w d) (fits : GateFits (getD gs (w .k) noGate)) (r : Walk) (d′ : List ℕ)
+        (same : length d′ ≡ length d) where
+      next : w .pass ≤ 2 → (length gs ≤ 65535 → Stands (circuitBytes n m gs) ts s o left r d′) → Good left r d′
+      next go stands =
+          let h = goes-few (suc left) w d good go in
+          record { long = same ∙ good .long; few = stands; many = λ i. absurd (omega arith); many-left = λ i. absurd (omega arith) }
 
-    pub ends : (left : ℕ) (w : Walk) (d : List ℕ) → Good left w d → w .going ≡ false → EvaluateGatesIs n m gs ts s o (evaluatedOf (w .answer)) d
+      pub nexts-0 : w .pass ≡ 0 → d′ ≡ d → TryLeads ts s w (getD gs (w .k) noGate) r → Good left r d′
+      nexts-0 e u leads =
+          let go : w .pass ≤ 2 = omega (arith, e) in
+          next go
+          (λ h. rw u (leads .leads (circuitBytes n m gs) o d left (good .few h .more go) (gate-is (suc left) w d good go fits) (good .few h .pass-0 e)))
+
+      pub nexts-1 : w .pass ≡ 1 → CheckLeads ts s w (getD gs (w .k) noGate) d r d′ → Good left r d′
+      nexts-1 e leads =
+          let go : w .pass ≤ 2 = omega (arith, e) in
+          next go (λ h. leads .leads (circuitBytes n m gs) o left (good .few h .more go) (gate-is (suc left) w d good go fits) (good .few h .pass-1 e))
+
+      pub nexts-2 : w .pass ≡ 2 → WriteLeads s w (getD gs (w .k) noGate) d r d′ → Good left r d′
+      nexts-2 e leads =
+          let go : w .pass ≤ 2 = omega (arith, e) in
+          next go (λ h. leads .leads (circuitBytes n m gs) ts o left (good .few h .more go) (gate-is (suc left) w d good go fits) (good .few h .pass-2 e))
+
+    pub ends : (left : ℕ) (w : Walk) (d : List ℕ) → Good left w d → w .pass ≡ 3 → EvaluateGatesIs n m gs ts s o (evaluatedOf (w .answer)) d
     ends left w d good stop = count fewer more
       where
         fewer : length gs ≤ 65535 → EvaluateGatesIs n m gs ts s o (evaluatedOf (w .answer)) d
@@ -208,3 +239,10 @@ module _ (n m : ℕ) (gs : List Gate) (ts s o : List ℕ) where
         more h =
             let v : evaluateGatesVerdict n m gs ts s (length o) ≡ refused 3 2 = unfold evaluateGatesVerdict refuse _then_ in rw (lt-ltb _ _ h) in
             record { answered = rw (v, good .many h .answered); left = rw v (good .many-left h) }
+
+    -- past the last pass
+    pub over : (left : ℕ) (w : Walk) (d : List ℕ) → Good left w d → 2 ≤ w .pass → eqb (w .pass) 2 ≡ false → EvaluateGatesIs n m gs ts s o (evaluatedOf (w .answer)) d
+    over left w d good h e =
+        let l = later 2 (w .pass) h e in
+        let u = passes left w d good in
+        ends left w d good (omega arith)

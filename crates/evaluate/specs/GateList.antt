@@ -31,15 +31,14 @@ pub record Lent (t k : List ℕ) : Type 0 where
 
 -- on to gate k of a pass
 pub record GoesTo (pass k : ℕ) (z : Sizes) (here : Cursor) (w : Walk) : Type 0 where
-  pub going : w .going ≡ true
   pub is-pass : w .pass ≡ pass
   pub is-k : w .k ≡ k
   pub is-z : w .z ≡ z
   pub is-here : w .here ≡ here
 
--- no further
+-- it is over
 pub record Ended (a : Evaluated) (w : Walk) : Type 0 where
-  pub stopped : w .going ≡ false
+  pub over : w .pass ≡ 3
   pub answered : w .answer ≡ a
 
 -- 3: "more than 65,535 records", or sizes that break a limit
@@ -84,12 +83,12 @@ pub record Written (c ts s o : List ℕ) (left k : ℕ) (z : Sizes) (at : ℕ) (
   pub turns : left + k ≡ gates c
 
 pub record Stands (c ts s o : List ℕ) (left : ℕ) (w : Walk) (d : List ℕ) : Type 0 where
-  pub more : w .going ≡ true → w .k < gates c
-  pub passes : w .going ≡ true → w .pass ≤ 2
-  pub pass-0 : w .going ≡ true → w .pass ≡ 0 → Tried c o left (w .k) (w .z) d
-  pub pass-1 : w .going ≡ true → w .pass ≡ 1 → Checked c ts s o left (w .k) (w .z) (w .here .at) d
-  pub pass-2 : w .going ≡ true → w .pass ≡ 2 → Written c ts s o left (w .k) (w .z) (w .here .at) d
-  pub ended : w .going ≡ false → EvaluateIs c ts s o (evaluatedOf (w .answer)) d
+  pub passes : w .pass ≤ 3
+  pub more : w .pass ≤ 2 → w .k < gates c
+  pub pass-0 : w .pass ≡ 0 → Tried c o left (w .k) (w .z) d
+  pub pass-1 : w .pass ≡ 1 → Checked c ts s o left (w .k) (w .z) (w .here .at) d
+  pub pass-2 : w .pass ≡ 2 → Written c ts s o left (w .k) (w .z) (w .here .at) d
+  pub ended : w .pass ≡ 3 → EvaluateIs c ts s o (evaluatedOf (w .answer)) d
 
 -- ---- what the walk's functions ask
 
@@ -107,19 +106,14 @@ pub record Checks (ts s : List ℕ) (k : ℕ) (z : Sizes) (at : ℕ) : Type 0 wh
   pub header : 9 ≤ length s
   pub room : at + 2 + z .m ≤ length s
 
-pub record Writes (s d : List ℕ) (w : Walk) (g : Gate) : Type 0 where
+-- room for the gate's token; t and k are what is lent
+pub record Writes (t k s d : List ℕ) (w : Walk) (g : Gate) : Type 0 where
+  pub lent : Lent t k
   pub few : Few (w .k) (w .z) (w .z .q)
   pub header : 9 ≤ length s
   pub start : TokenStart (getD s 2 0) (w .z .n) (w .k) g s (w .here .at) d
 
--- a gate at its turn, by the pass; t and k are what is lent
-pub record Visits (t k ts s d : List ℕ) (w : Walk) (g : Gate) : Type 0 where
-  pub lent : Lent t k
-  pub pass-0 : w .pass ≡ 0 → Few (w .k) (w .z) (w .k)
-  pub pass-1 : w .pass ≡ 1 → Checks ts s (w .k) (w .z) (w .here .at + charge (kindOf (g .code)) * (4 + 16 * rowsStored (getD s 2 0)))
-  pub pass-2 : (w .pass ≡ 0 → ⊥) → (w .pass ≡ 1 → ⊥) → Writes s d w g
-
--- ---- what they lead to, for every circuit and every number of turns left
+-- ---- what they lead to, for every circuit and every number of turns left: no earlier pass, and where the walk stands then
 
 pub record TriedLeads (ts s : List ℕ) (k : ℕ) (z : Sizes) (r : Walk) : Type 0 where
   pub leads : (c o d : List ℕ) (left : ℕ) → Tried c o left (k + 1) z d → Stands c ts s o left r d
@@ -128,15 +122,15 @@ pub record TryLeads (ts s : List ℕ) (w : Walk) (g : Gate) (r : Walk) : Type 0 
   pub leads : (c o d : List ℕ) (left : ℕ) → w .k < gates c → GateIs c (w .k) g → Tried c o (suc left) (w .k) (w .z) d → Stands c ts s o left r d
 
 pub record CheckedLeads (ts s : List ℕ) (k : ℕ) (z : Sizes) (at : ℕ) (d : List ℕ) (r : Walk) (d′ : List ℕ) : Type 0 where
+  pub on : 1 ≤ r .pass
   pub leads : (c o : List ℕ) (left : ℕ) → Checked c ts s o left (k + 1) z at d → Stands c ts s o left r d′
 
 pub record CheckLeads (ts s : List ℕ) (w : Walk) (g : Gate) (d : List ℕ) (r : Walk) (d′ : List ℕ) : Type 0 where
+  pub on : 1 ≤ r .pass
   pub leads : (c o : List ℕ) (left : ℕ) → w .k < gates c → GateIs c (w .k) g → Checked c ts s o (suc left) (w .k) (w .z) (w .here .at) d
       → Stands c ts s o left r d′
 
 pub record WriteLeads (s : List ℕ) (w : Walk) (g : Gate) (d : List ℕ) (r : Walk) (d′ : List ℕ) : Type 0 where
+  pub on : 2 ≤ r .pass
   pub leads : (c ts o : List ℕ) (left : ℕ) → w .k < gates c → GateIs c (w .k) g → Written c ts s o (suc left) (w .k) (w .z) (w .here .at) d
       → Stands c ts s o left r d′
-
-pub record VisitLeads (ts s : List ℕ) (w : Walk) (g : Gate) (d : List ℕ) (r : Walk) (d′ : List ℕ) : Type 0 where
-  pub leads : (c o : List ℕ) (left : ℕ) → w .going ≡ true → GateIs c (w .k) g → Stands c ts s o (suc left) w d → Stands c ts s o left r d′

@@ -1,17 +1,15 @@
 // Evaluation over a list of gate records (01, Circuit): for a caller that runs one circuit many times and has its gates already
 // read. No bytes are made of the records: they are walked three times, in the order in which document 01 refuses. Pass 0 looks
 // for faults in the gates (6 and 7), pass 1 checks their row records (17), pass 2 writes their tokens; between the passes stands
-// what is tried once. All is decided here; `walk_gates` below only hands over one record after the other.
+// what is tried once. All is decided here; `walk_gates` below only hands over one record after the other, in a loop for each pass.
 // Whatever enciphers is lent the T-tables t and the schedule w of π's fixed key.
 ghost use mathlib.Core.Path.{_≡_};
 ghost use Prim.Native.Nat.{_+_, _*_};
 ghost use lib.ListN.{getD};
 ghost use Rattle.model.specs.Circuit.{kindOf, charge};
 ghost use Rattle.model.specs.Material.{rowsStored};
-ghost use Rattle.aes.specs.Tables.{IsTTables};
-ghost use Rattle.model.specs.Aes.{keyExpansion, fixedKey};
 ghost use Rattle.model.specs.Operations.{evaluatedOf, EvaluateGatesIs};
-ghost use Rattle.evaluate.specs.GateList.{Lent, Ended, GoesTo, Begun, Few, TriedLeads, TryLeads, Checks, CheckedLeads, CheckLeads, Writes, WriteLeads, Visits, VisitLeads};
+ghost use Rattle.evaluate.specs.GateList.{Lent, Ended, GoesTo, Begun, Few, Checks, Writes, TriedLeads, TryLeads, CheckedLeads, CheckLeads, WriteLeads};
 use crate::walk::calls_made;
 use crate::walk::write_token;
 use aes::fixed_schedule;
@@ -33,44 +31,36 @@ use model::Refusal;
 use model::Sizes;
 use model::Wire;
 
-// Where the walk over the records stands.
+// Where the walk over the records stands. What it no longer needs stays as it was when it is over: what no turn changes is then kept
+// in registers.
 pub struct Walk {
-    pub going: bool, // whether there is a gate to go to
-    pub k: usize, // that gate, from 0
-    pub pass: u8, // 0, 1 or 2
+    pub pass: u8, // 0, 1 or 2; 3 if it is over
+    pub k: usize, // the gate to go to, from 0
     pub z: Sizes, // the sizes; p is counted in pass 0
     pub here: Cursor, // where the next row record stands
-    pub answer: Evaluated, // if it goes no further
+    pub answer: Evaluated, // if it is over
 }
 
-// No further: this is the answer.
-fn ended(answer: Evaluated) -> Walk
+// It is over: this is the answer.
+fn ended(k: usize, z: Sizes, here: Cursor, answer: Evaluated) -> Walk
     ensures { λ r. ⌜ Ended answer r ⌝ }
 {
-    let z = Sizes {
-        n: 0,
-        m: 0,
-        q: 0,
-        p: 0,
-    };
     Walk {
-        going: false,
-        k: 0,
-        pass: 0,
+        pass: 3,
+        k,
         z,
-        here: Cursor::first(),
+        here,
         answer,
     }
 }
 
-// On to gate k.
+// On to gate k of a pass.
 fn go_to(pass: u8, k: usize, z: Sizes, here: Cursor) -> Walk
     ensures { λ r. ⌜ GoesTo pass k z here r ⌝ }
 {
     Walk {
-        going: true,
-        k,
         pass,
+        k,
         z,
         here,
         answer: Evaluated::Done(0),
@@ -83,14 +73,15 @@ pub fn begin(n: u16, m: u16, q: usize) -> Walk
 {
     let n = n as usize;
     let m = m as usize;
+    let z = Sizes { n, m, q, p: 0 };
+    let first = Cursor::first();
     if 65535 < q {
-        return ended(Evaluated::Refused(Refusal::Limits));
+        return ended(0, z, first, Evaluated::Refused(Refusal::Limits));
     }
     if !sizes_hold(n, m, q) {
-        return ended(Evaluated::Refused(Refusal::Limits));
+        return ended(0, z, first, Evaluated::Refused(Refusal::Limits));
     }
-    let z = Sizes { n, m, q, p: 0 };
-    go_to(0, 0, z, Cursor::first())
+    go_to(0, 0, z, first)
 }
 
 // Gate k has no fault. After the last gate 11 and 12 to 16 are tried.
@@ -99,22 +90,23 @@ fn gate_tried(k: usize, z: Sizes, tokens: &[u8], material: &[u8]) -> Walk
     ensures { λ r. ⌜ TriedLeads (now (tokens .entry)) (now (material .entry)) k z r ⌝ }
 {
     let next = k + 1;
+    let first = Cursor::first();
     if next < z.q {
-        return go_to(0, next, z, Cursor::first());
+        return go_to(0, next, z, first);
     }
     let len = tokens.len();
     let list = 16 * z.n;
     if len != list {
-        return ended(Evaluated::Refused(Refusal::TokensLength(len)));
+        return ended(k, z, first, Evaluated::Refused(Refusal::TokensLength(len)));
     }
     match check_file(material, z) {
-        Ran::Refused(f) => ended(Evaluated::Refused(f)),
-        Ran::Done => go_to(1, 0, z, Cursor::first()),
+        Ran::Refused(f) => ended(k, z, first, Evaluated::Refused(f)),
+        Ran::Done => go_to(1, 0, z, first),
     }
 }
 
 // Pass 0 at gate g: 6 and 7, and the charged gates are counted.
-fn try_gate(s: Walk, g: Gate, tokens: &[u8], material: &[u8]) -> Walk
+pub fn try_gate(s: Walk, g: Gate, tokens: &[u8], material: &[u8]) -> Walk
     requires { ⌜ Few (s .k) (s .z) (s .k) ⌝ }
     ensures { λ r. ⌜ TryLeads (now (tokens .entry)) (now (material .entry)) s g r ⌝ }
 {
@@ -132,7 +124,7 @@ fn try_gate(s: Walk, g: Gate, tokens: &[u8], material: &[u8]) -> Walk
             };
             gate_tried(k, counted, tokens, material)
         }
-        GateRead::Fault(f) => ended(Evaluated::Refused(f)),
+        GateRead::Fault(f) => ended(k, z, s.here, Evaluated::Refused(f)),
     }
 }
 
@@ -153,11 +145,11 @@ fn record_checked(
         return go_to(1, next, z, there);
     }
     match check_last(material, z.m, there.at) {
-        Ran::Refused(f) => ended(Evaluated::Refused(f)),
+        Ran::Refused(f) => ended(k, z, there, Evaluated::Refused(f)),
         Ran::Done => {
             let bytes = 16 * (z.n + z.q);
             if wires.len() < bytes {
-                return ended(Evaluated::Refused(Refusal::Room(bytes)));
+                return ended(k, z, there, Evaluated::Refused(Refusal::Room(bytes)));
             }
             copy_front(tokens, wires);
             go_to(2, 0, z, Cursor::first())
@@ -166,7 +158,7 @@ fn record_checked(
 }
 
 // Pass 1 at gate g: 17.
-fn check_record(s: Walk, g: Gate, tokens: &[u8], material: &[u8], wires: &mut [u8]) -> Walk
+pub fn check_record(s: Walk, g: Gate, tokens: &[u8], material: &[u8], wires: &mut [u8]) -> Walk
     requires { ⌜ Checks (now tokens) (now material) (s .k) (s .z) (s .here .at + charge (kindOf (g .code)) * (4 + 16 * rowsStored (getD (now material) 2 0))) ⌝ }
     ensures { λ r. ⌜ CheckLeads (now (tokens .entry)) (now (material .entry)) s g (now (wires .entry)) r (now (wires .exit)) ⌝ }
 {
@@ -175,13 +167,13 @@ fn check_record(s: Walk, g: Gate, tokens: &[u8], material: &[u8], wires: &mut [u
     let due = Wire((z.n + k + 1) as u16);
     let rows = rows_stored(material[2]);
     match pass_gate(material, rows, g.code, due, s.here) {
-        Step::Fault(f) => ended(Evaluated::Refused(f)),
+        Step::Fault(f) => ended(k, z, s.here, Evaluated::Refused(f)),
         Step::Next(there) => record_checked(k, z, there, tokens, material, wires),
     }
 }
 
 // Pass 2 at gate g: its token. After the last the calls of π are the answer.
-fn write_next(
+pub fn write_next(
     t: &[u32; 1024],
     w: &[u8; 176],
     s: Walk,
@@ -189,9 +181,7 @@ fn write_next(
     material: &[u8],
     wires: &mut [u8],
 ) -> Walk
-    requires { ⌜ IsTTables (now t) ⌝ }
-    requires { ⌜ now w ≡ keyExpansion fixedKey ⌝ }
-    requires { ⌜ Writes (now material) (now wires) s g ⌝ }
+    requires { ⌜ Writes (now t) (now w) (now material) (now wires) s g ⌝ }
     ensures { λ r. ⌜ WriteLeads (now (material .entry)) s g (now (wires .entry)) r (now (wires .exit)) ⌝ }
 {
     let k = s.k;
@@ -202,30 +192,7 @@ fn write_next(
     if next < z.q {
         return go_to(2, next, z, there);
     }
-    ended(Evaluated::Done(calls_made(scheme, z.p)))
-}
-
-// Gate g at its turn.
-pub fn visit(
-    t: &[u32; 1024],
-    w: &[u8; 176],
-    s: Walk,
-    g: Gate,
-    tokens: &[u8],
-    material: &[u8],
-    wires: &mut [u8],
-) -> Walk
-    requires { ⌜ Visits (now t) (now w) (now tokens) (now material) (now wires) s g ⌝ }
-    ensures { λ r. ⌜ VisitLeads (now (tokens .entry)) (now (material .entry)) s g (now (wires .entry)) r (now (wires .exit)) ⌝ }
-{
-    let pass = s.pass;
-    if pass == 0 {
-        return try_gate(s, g, tokens, material);
-    }
-    if pass == 1 {
-        return check_record(s, g, tokens, material, wires);
-    }
-    write_next(t, w, s, g, material, wires)
+    ended(k, z, there, Evaluated::Done(calls_made(scheme, z.p)))
 }
 
 // The answer at the end of the walk.
@@ -235,8 +202,8 @@ pub fn finish(s: Walk) -> Evaluated
     s.answer
 }
 
-// The walk over the records. This function and the next are proved by hand, since both hold a slice of structs
-// (proofs/list, with a script that writes the longer proof): so they only hand on what the functions above decide.
+// The walk over the records. This function and the next are proved by hand, since both hold a slice of structs (a script of tools/
+// writes each proof): so they only hand on what the functions above decide.
 pub fn walk_gates(
     t: &[u32; 1024],
     w: &[u8; 176],
@@ -251,9 +218,17 @@ pub fn walk_gates(
     ensures { λ r. ⌜ EvaluateGatesIs n m (now (gates .entry)) (now (tokens .entry)) (now (material .entry)) (now (wires .entry)) (evaluatedOf r) (now (wires .exit)) ⌝ }
 {
     let mut s = begin(n, m, gates.len());
-    while s.going {
+    while s.pass == 0 {
         let k = s.k;
-        s = visit(t, w, s, gates[k], tokens, material, wires);
+        s = try_gate(s, gates[k], tokens, material);
+    }
+    while s.pass == 1 {
+        let k = s.k;
+        s = check_record(s, gates[k], tokens, material, wires);
+    }
+    while s.pass == 2 {
+        let k = s.k;
+        s = write_next(t, w, s, gates[k], material, wires);
     }
     finish(s)
 }

@@ -8,4 +8,4 @@ gate-tried-spec =
     tie.close
     (tie.spec (λ c. search needs) (λ c κs. search needs) (λ c κs. search needs) (λ c. search tried-cases) (λ c. search needs)
     (λ c κs. search needs) (λ c. search tried-cases) (λ c κs. search needs) (λ c. search needs) (λ c κs. search needs)
-    (λ c. search needs) (λ c κs. search needs) (λ c κs. search needs) (λ c. search tried-cases) (λ c. search tried-cases))
+    (λ c. search needs) (λ c κs. search needs) (λ c. search tried-cases) (λ c. search tried-cases))
