@@ -33,10 +33,13 @@ pub fn answer(answer: &Result<Vec<u64>, Refused>) -> Vec<u8> {
 
 /// Some bytes, and after them the lengths of the output buffers.
 fn setting(first: &[u8], call: &Call) -> Vec<u8> {
-    // What `vectors` has room for: material and all zero tokens, then the tokens of the inputs.
-    let room = [1 << 20, 1 << 20, 1 << 16];
+    // What `vectors` has room for.
+    let room = match call.operation {
+        Operation::Garble => 1 << 16,
+        _ => 1 << 17,
+    };
     let mut bytes = first.to_vec();
-    for (&length, room) in call.lens.iter().zip(room) {
+    for &length in &call.lens {
         assert!(length <= room, "more room than `vectors` has");
         bytes.extend(word(length as u64));
     }

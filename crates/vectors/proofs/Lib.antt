@@ -1,2 +1,2 @@
 -- What more than one proof cites.
-pub mod Zeros
+pub mod Copies

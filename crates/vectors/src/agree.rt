@@ -5,6 +5,7 @@ use crate::answer::refused;
 use crate::chained::chain_run;
 use crate::garbler::garble_run;
 use crate::garbler::pick_run;
+use crate::room;
 use crate::single::single_run;
 use aes::encrypt;
 use aes::expand_key;
@@ -72,24 +73,17 @@ fn plain_leaves(
 }
 
 // Circuit, values, the buffer before, the answer, and the buffer after.
-fn plain_run(
-    circuit: &[u8],
-    values: &[u8],
-    before: &[u8],
-    answer: &[u8],
-    after: &[u8],
-    work: &mut [u8],
-) -> bool {
-    let room = before.len();
-    if work.len() < room {
+fn plain_run(circuit: &[u8], values: &[u8], before: &[u8], answer: &[u8], after: &[u8]) -> bool {
+    let len = before.len();
+    if 131072 < len {
         return false;
     }
-    plain_leaves(circuit, values, before, answer, after, &mut work[..room])
+    let mut wires = room::more(0);
+    plain_leaves(circuit, values, before, answer, after, &mut wires[..len])
 }
 
 // By group: 1 encryption, 2 key expansion, 3 doubling, 4 check, 5 plain, 6 garble, 7 encode, 8 pick, 10 evaluate,
-// 11 decode, 12 the chain, 13 evaluate's list form. What an operation writes goes to `work`, and garble's tokens to `zeros` and
-// `ones`.
+// 11 decode, 12 the chain, 13 evaluate's list form.
 pub fn agrees<'a>(
     group: u8,
     a: &'a [u8],
@@ -99,20 +93,17 @@ pub fn agrees<'a>(
     e: &[u8],
     f: &[u8],
     g: &[u8],
-    work: &mut [u8],
-    zeros: &mut [u8],
-    ones: &mut [u8],
 ) -> bool {
     match group {
         1 => encryption(a, b, c),
         2 => expansion(a, b),
         3 => doubling(a, b, c),
         4 => checking(a, b),
-        5 => plain_run(a, b, c, d, e, work),
-        6 => garble_run(a, b, c, d, e, f, g, work, zeros, ones),
-        7 => single_run(group, a, b, c, d, e, f, g, work),
+        5 => plain_run(a, b, c, d, e),
+        6 => garble_run(a, b, c, d, e, f, g),
+        7 => single_run(group, a, b, c, d, e, f, g),
         8 => pick_run(a, b, c, d, e),
-        12 => chain_run(a, b, c, d, e, f, g, work, zeros, ones),
-        _ => single_run(group, a, b, c, d, d, e, f, work),
+        12 => chain_run(a, b, c, d, e, f, g),
+        _ => single_run(group, a, b, c, d, d, e, f),
     }
 }

@@ -19,14 +19,7 @@ pub struct Tally {
 }
 
 // The case whose fields stand in a buffer.
-fn run_case(
-    group: u8,
-    fields: &[u8],
-    k: Cuts,
-    work: &mut [u8],
-    zeros: &mut [u8],
-    ones: &mut [u8],
-) -> bool
+fn run_case(group: u8, fields: &[u8], k: Cuts) -> bool
     requires { ⌜ CutsFit (now fields) (k .a) (k .b) (k .c) (k .d) (k .e) (k .f) (k .g) ⌝ }
 {
     let a = k.a;
@@ -45,29 +38,18 @@ fn run_case(
         &fields[d..e],
         &fields[e..f],
         &fields[f..g],
-        work,
-        zeros,
-        ones,
     )
 }
 
 // The case on the line that starts at an index, decoded to a buffer.
-fn run_line(
-    group: u8,
-    text: &[u8],
-    at: usize,
-    fields: &mut [u8],
-    work: &mut [u8],
-    zeros: &mut [u8],
-    ones: &mut [u8],
-) -> bool
+fn run_line(group: u8, text: &[u8], at: usize, fields: &mut [u8]) -> bool
     requires { ⌜ at ≤ length (now text) ⌝ }
 {
     let k = read_fields(text, at, fields);
     if group == LARGE {
-        return large_run(k.g, fields, work, zeros, ones);
+        return large_run(k.g, fields);
     }
-    run_case(group, fields, k, work, zeros, ones)
+    run_case(group, fields, k)
 }
 
 // 1 for a case that agrees.
@@ -77,31 +59,21 @@ fn one_if(agrees: bool) -> usize
     if agrees { 1 } else { 0 }
 }
 
-// All cases of a text, each in the same room.
-fn run_lines(
-    group: u8,
-    text: &[u8],
-    fields: &mut [u8],
-    work: &mut [u8],
-    zeros: &mut [u8],
-    ones: &mut [u8],
-) -> Tally {
+// All cases of a text, each decoded to the same buffer.
+fn run_lines(group: u8, text: &[u8], fields: &mut [u8]) -> Tally {
     let mut at: usize = 0;
     let mut cases: usize = 0;
     let mut agreed: usize = 0;
     while at < text.len() {
-        agreed += one_if(run_line(group, text, at, fields, work, zeros, ones));
+        agreed += one_if(run_line(group, text, at, fields));
         cases += 1;
         at = next_line(text, at);
     }
     Tally { cases, agreed }
 }
 
-// All cases of a text. The one tokens of 4,096 inputs fill the last buffer.
+// All cases of a text.
 pub fn run(group: u8, text: &[u8]) -> Tally {
     let mut fields = room::half();
-    let mut work = room::most();
-    let mut zeros = room::most();
-    let mut ones = io::large_buffer();
-    run_lines(group, text, &mut fields, &mut work, &mut zeros, &mut ones)
+    run_lines(group, text, &mut fields)
 }

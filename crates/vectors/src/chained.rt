@@ -5,7 +5,6 @@ ghost use lib.ListN.{length};
 use crate::answer::done;
 use crate::answer::refused_by;
 use crate::answer::room_at;
-use crate::fill::fill_three;
 use crate::room;
 use chain::Chained;
 use check::same;
@@ -54,7 +53,7 @@ fn chain_leaves(
     chained(c, answer) & same_wires & same_bits
 }
 
-// The chain on three buffers that are cut and filled already, and three of 65,536 bytes of room that are made here.
+// The chain on its first three buffers, and on the other three, which are made here.
 fn chain_made(
     circuit: &[u8],
     seed: &[u8],
@@ -70,9 +69,9 @@ fn chain_made(
     requires { ⌜ length (now setting) ≡ 26 ⌝ }
 {
     let before = setting[1];
-    let mut tokens = room::filled(before);
-    let mut wires = room::filled(before);
-    let mut bits = room::filled(before);
+    let mut tokens = room::some(before);
+    let mut wires = room::some(before);
+    let mut bits = room::some(before);
     let d = room_at(setting, 14, 65536);
     let e = room_at(setting, 18, 65536);
     let f = room_at(setting, 22, 65536);
@@ -93,36 +92,6 @@ fn chain_made(
     )
 }
 
-// The same on three buffers that are only cut.
-fn chain_filled(
-    circuit: &[u8],
-    seed: &[u8],
-    values: &[u8],
-    setting: &[u8],
-    answer: &[u8],
-    after_wires: &[u8],
-    after_bits: &[u8],
-    material: &mut [u8],
-    zeros: &mut [u8],
-    ones: &mut [u8],
-) -> bool
-    requires { ⌜ length (now setting) ≡ 26 ⌝ }
-{
-    fill_three(material, zeros, ones, setting[1]);
-    chain_made(
-        circuit,
-        seed,
-        values,
-        setting,
-        answer,
-        after_wires,
-        after_bits,
-        material,
-        zeros,
-        ones,
-    )
-}
-
 // Circuit, seed, values, setting (scheme, fill, the lengths of six buffers: 1 byte, 1 and 4 each), the answer, and the last
 // two buffers.
 pub fn chain_run(
@@ -133,17 +102,18 @@ pub fn chain_run(
     answer: &[u8],
     after_wires: &[u8],
     after_bits: &[u8],
-    work: &mut [u8],
-    work_zeros: &mut [u8],
-    work_ones: &mut [u8],
 ) -> bool {
     if setting.len() != 26 {
         return false;
     }
-    let a = room_at(setting, 2, work.len());
-    let b = room_at(setting, 6, work_zeros.len());
-    let c = room_at(setting, 10, work_ones.len());
-    chain_filled(
+    let before = setting[1];
+    let mut material = room::some(before);
+    let mut zeros = room::some(before);
+    let mut ones = room::some(before);
+    let a = room_at(setting, 2, 65536);
+    let b = room_at(setting, 6, 65536);
+    let c = room_at(setting, 10, 65536);
+    chain_made(
         circuit,
         seed,
         values,
@@ -151,8 +121,8 @@ pub fn chain_run(
         answer,
         after_wires,
         after_bits,
-        &mut work[..a],
-        &mut work_zeros[..b],
-        &mut work_ones[..c],
+        &mut material[..a],
+        &mut zeros[..b],
+        &mut ones[..c],
     )
 }

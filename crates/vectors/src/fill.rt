@@ -1,22 +1,6 @@
-// Buffers of one byte over and over: what an operation finds in its buffers, and leaves there when it refuses.
+// Buffers of one byte over and over: what an operation finds in its buffers (room.rt), and leaves there when it refuses.
 use crate::answer::accepted;
 use check::same;
-
-// Sets every byte of a buffer.
-pub fn fill(out: &mut [u8], value: u8) {
-    let mut i: usize = 0;
-    while i < out.len() {
-        out[i] = value;
-        i += 1;
-    }
-}
-
-// Sets every byte of three buffers.
-pub fn fill_three(x: &mut [u8], y: &mut [u8], z: &mut [u8], value: u8) {
-    fill(x, value);
-    fill(y, value);
-    fill(z, value);
-}
 
 // Whether every byte of a buffer is the one given.
 pub fn filled(out: &[u8], value: u8) -> bool {

@@ -3,25 +3,10 @@
 use crate::answer::garbled;
 use crate::answer::ran;
 use crate::answer::room_at;
-use crate::fill::fill_three;
 use crate::fill::left;
+use crate::room;
 use buffer::read16;
 use check::same;
-
-// Whether garble answers as the case does, on three buffers that are filled first.
-fn garble_answers(
-    circuit: &[u8],
-    seed: &[u8],
-    scheme: u8,
-    before: u8,
-    answer: &[u8],
-    x: &mut [u8],
-    y: &mut [u8],
-    z: &mut [u8],
-) -> bool {
-    fill_three(x, y, z, before);
-    garbled(garble::garble(circuit, seed, scheme, x, y, z), answer)
-}
 
 // Garble on three buffers: the answer, and what each buffer holds after it.
 fn garble_leaves(
@@ -37,11 +22,11 @@ fn garble_leaves(
     y: &mut [u8],
     z: &mut [u8],
 ) -> bool {
-    let agreed = garble_answers(circuit, seed, scheme, before, answer, x, y, z);
+    let g = garble::garble(circuit, seed, scheme, x, y, z);
     let x_left = left(answer, before, material, x);
     let y_left = left(answer, before, zeros, y);
     let z_left = left(answer, before, ones, z);
-    agreed & x_left & y_left & z_left
+    garbled(g, answer) & x_left & y_left & z_left
 }
 
 // Circuit, seed, setting (scheme, fill, the lengths of three buffers: 1 byte, 1 and 4 each), the answer, and the buffers.
@@ -53,28 +38,29 @@ pub fn garble_run(
     material: &[u8],
     zeros: &[u8],
     ones: &[u8],
-    work: &mut [u8],
-    work_zeros: &mut [u8],
-    work_ones: &mut [u8],
 ) -> bool {
     if setting.len() != 14 {
         return false;
     }
-    let l = room_at(setting, 2, work.len());
-    let k = room_at(setting, 6, work_zeros.len());
-    let j = room_at(setting, 10, work_ones.len());
+    let before = setting[1];
+    let mut x = room::some(before);
+    let mut y = room::some(before);
+    let mut z = room::some(before);
+    let l = room_at(setting, 2, 65536);
+    let k = room_at(setting, 6, 65536);
+    let j = room_at(setting, 10, 65536);
     garble_leaves(
         circuit,
         seed,
         setting[0],
-        setting[1],
+        before,
         answer,
         material,
         zeros,
         ones,
-        &mut work[..l],
-        &mut work_zeros[..k],
-        &mut work_ones[..j],
+        &mut x[..l],
+        &mut y[..k],
+        &mut z[..j],
     )
 }
 

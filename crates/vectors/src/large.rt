@@ -5,9 +5,9 @@ ghost use Prim.Native.Nat.{_<_};
 use crate::answer::garbled;
 use crate::answer::short_at;
 use crate::answer::word_at;
-use crate::fill::fill_three;
 use crate::fill::filled;
 use crate::fingerprint::fingerprint;
+use crate::room;
 use crate::rule::Rule;
 use crate::rule::put_circuit;
 use block::load;
@@ -59,28 +59,25 @@ fn all_wrote(case: &[u8; 86], material: &[u8], zeros: &[u8], ones: &[u8]) -> boo
     material_wrote & zeros_wrote & ones_wrote
 }
 
-// Garble on the circuit that a case's rule made.
-fn garble_made(
-    case: &[u8; 86],
-    circuit: &[u8],
-    work: &mut [u8],
-    zeros: &mut [u8],
-    ones: &mut [u8],
-) -> bool {
-    fill_three(work, zeros, ones, BEFORE);
+// Garble on the circuit that a case's rule made. The one tokens of 4,096 inputs fill the last buffer.
+fn garble_made(case: &[u8; 86], circuit: &[u8]) -> bool {
+    let mut material = room::most(BEFORE);
+    let mut zeros = room::most(BEFORE);
+    let mut ones = room::some(BEFORE);
     let seed = load(case, 12).bytes;
-    let g = garble::garble(circuit, &seed, case[28], work, zeros, ones);
-    answered(g, case) & all_wrote(case, work, zeros, ones)
+    let g = garble::garble(
+        circuit,
+        &seed,
+        case[28],
+        &mut material,
+        &mut zeros,
+        &mut ones,
+    );
+    answered(g, case) & all_wrote(case, &material, &zeros, &ones)
 }
 
 // The case whose circuit is to be made in a buffer.
-fn large_case(
-    case: &[u8; 86],
-    fields: &mut [u8],
-    work: &mut [u8],
-    zeros: &mut [u8],
-    ones: &mut [u8],
-) -> bool {
+fn large_case(case: &[u8; 86], fields: &mut [u8]) -> bool {
     let r = rule_of(case);
     let end = 8 + 7 * r.q;
     if r.n < 2 {
@@ -90,17 +87,11 @@ fn large_case(
         return false;
     }
     put_circuit(fields, r);
-    garble_made(case, &fields[..end], work, zeros, ones)
+    garble_made(case, &fields[..end])
 }
 
 // The case of `len` bytes at the front of a buffer; the circuit then takes its place there.
-pub fn large_run(
-    len: usize,
-    fields: &mut [u8],
-    work: &mut [u8],
-    zeros: &mut [u8],
-    ones: &mut [u8],
-) -> bool {
+pub fn large_run(len: usize, fields: &mut [u8]) -> bool {
     if len != 86 {
         return false;
     }
@@ -109,5 +100,5 @@ pub fn large_run(
     }
     let mut case = [0u8; 86];
     buffer::copy_front(&fields[..86], &mut case);
-    large_case(&case, fields, work, zeros, ones)
+    large_case(&case, fields)
 }

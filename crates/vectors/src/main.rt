@@ -35,7 +35,7 @@ fn run_file(group: u8, path: &[u8]) {
         os::fail(path);
         return;
     }
-    let mut text = room::most();
+    let mut text = room::most(0);
     let len = io::read_full(file, &mut text);
     libc::close(file);
     print_tally(run(group, &text[..len]));

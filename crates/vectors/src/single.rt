@@ -5,9 +5,9 @@
 use crate::answer::evaluated;
 use crate::answer::ran;
 use crate::answer::room_at;
-use crate::fill::fill;
 use crate::fill::left;
 use crate::listed::list_answers;
+use crate::room;
 
 // Whether the operation answers as the case does.
 fn answers(
@@ -40,7 +40,6 @@ fn single_leaves(
     after: &[u8],
     out: &mut [u8],
 ) -> bool {
-    fill(out, before);
     let agreed = answers(group, a, b, c, d, answer, out);
     agreed & left(answer, before, after, out)
 }
@@ -55,11 +54,12 @@ pub fn single_run(
     setting: &[u8],
     answer: &[u8],
     after: &[u8],
-    work: &mut [u8],
 ) -> bool {
     if setting.len() != 5 {
         return false;
     }
-    let l = room_at(setting, 1, work.len());
-    single_leaves(group, a, b, c, d, setting[0], answer, after, &mut work[..l])
+    let before = setting[0];
+    let mut out = room::more(before);
+    let l = room_at(setting, 1, 131072);
+    single_leaves(group, a, b, c, d, before, answer, after, &mut out[..l])
 }

@@ -16,8 +16,7 @@ pub large-run-spec : {M : Type 1} → statement M
 large-run-spec =
     tie.close
     (tie.spec (λ c. search needs) (λ c. search needs) (λ c. search needs)
-    (λ c. sym (length-take-le 86 (c .before .before .before .before .before .before .before .args .fields .now) (omega arith)))
+    (λ c. sym (length-take-le 86 (c .before .before .before .before .args .fields .now) (omega arith)))
     (λ c. search needs)
-    (λ c κs. shorter 86 (c .before .before .before .before .before .before .before .before .args .fields .now) (omega arith))
-    (λ c κs. search needs) (λ c. search needs) (λ c. search needs) (λ c. search needs) (λ c. search needs)
-    (λ c. search needs))
+    (λ c κs. shorter 86 (c .before .before .before .before .before .args .fields .now) (omega arith))
+    (λ c κs. search needs) (λ c. search needs) (λ c. search needs))
