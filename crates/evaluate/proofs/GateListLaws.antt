@@ -12,8 +12,9 @@ use mir.Syntax.{w64}
 use mir.Val.{Fits}
 use Rattle.model.specs.declared.Gate.{Gate}
 use Rattle.model.specs.declared.Sizes.{Sizes}
+use Rattle.model.specs.declared.Wire.{Wire}
 use Rattle.model.specs.declared.Refusal.{Refusal}
-use Rattle.model.specs.declared.Refusal.the-variants.{Limits, TokensLength, Room}
+use Rattle.model.specs.declared.Refusal.the-variants.{Limits, TokensLength, RowRecord, Room}
 use Rattle.model.specs.declared.Ran.{Ran}
 use Rattle.model.specs.declared.Evaluated.{Evaluated}
 use Rattle.model.specs.Bytes.{over}
@@ -22,7 +23,7 @@ use Rattle.aes.specs.Tables.{IsTTables}
 use Rattle.model.specs.Aes.{keyExpansion, fixedKey}
 use Rattle.model.specs.Garbling.{schemeOf}
 use Rattle.model.specs.Material.{rowsStored}
-use Rattle.model.specs.Refusals.{fine, refused, refuse, _then_, firstOf, numberOf, placeOf, verdictOf, headVerdict, gateVerdict, recordVerdict, gatesVerdict, circuitVerdict, tokensVerdict, materialVerdict, roomVerdict, isCharged, rowStart, rowRecordAt, rowVerdict}
+use Rattle.model.specs.Refusals.{fine, refused, refuse, _then_, firstOf, numberOf, placeOf, verdictOf, headVerdict, gateVerdict, recordVerdict, gatesVerdict, circuitVerdict, tokensVerdict, materialVerdict, roomVerdict, rowStart, rowRecordAt, rowVerdict}
 use Rattle.model.specs.Operations.{answer, sizesOf, ranOf, evaluatedOf, evaluateVerdict, EvaluateIs}
 use Rattle.model.proofs.Lists.{tabulate-snoc}
 use Rattle.model.proofs.Circuits.{charge-le, charges-snoc}
@@ -35,7 +36,7 @@ use Rattle.material.specs.declared.records.Step.{Step}
 use Rattle.material.specs.Answers.{Accepted, sizesVerdict, stepOf, passAnswer, lastAt}
 use Rattle.material.proofs.SizeLaws.{limits, is-n, is-m, is-q}
 use Rattle.material.proofs.RowLaws.{row-first}
-use Rattle.material.proofs.RecordLaws.{Reading, at-turn, gate-passed, turn-next, turn-fault}
+use Rattle.material.proofs.RecordLaws.{Reading, at-turn, gate-passed, turn-next, turn-fault, one-charged, answer-free, answer-wrong, answer-right}
 use Rattle.material.proofs.MaterialLaws.{by-record, by-last, material-file, filed}
 use Rattle.evaluate.specs.declared.list.Walk.{Walk}
 use Rattle.evaluate.specs.Answers.{restVerdict}
@@ -333,21 +334,10 @@ module _ (ts s : List ℕ) (k : ℕ) (z : Sizes) (there : Cursor) (d : List ℕ)
 
 pub ruleset checked-cases = (checked-next, checked-last, checked-room, checked-all)
 
--- ---- check_record: what was found at the place of the gate's record
-module _ (ts s : List ℕ) (w : Walk) (g : Gate) (rows : ℕ) (is-rows : rows ≡ rowsStored (getD s 2 0)) where
-  pub check-room : Checks ts s (w .k) (w .z) (w .here .at + charge (kindOf (g .code)) * (4 + 16 * rowsStored (getD s 2 0)))
-      → w .here .at + charge (kindOf (g .code)) * (4 + 16 * rows) ≤ length s
-  check-room a = rw is-rows (omega (arith, a .room))
-
-  module _ (u : Step) (is-u : stepOf u ≡ passAnswer s (w .here .at) rows (g .code) (w .z .n + w .k + 1)) where
-    pub check-past : Checks ts s (w .k) (w .z) (w .here .at + charge (kindOf (g .code)) * (4 + 16 * rowsStored (getD s 2 0)))
-        → (there : Cursor) → u ≡ Step.Next there → Checks ts s (w .k) (w .z) (there .at)
-    check-past a there e =
-        let due = w .z .n + w .k + 1 in
-        let v = yes-given (refuse (isCharged (kindOf (g .code)) && not (rowRecordAt s (w .here .at) due)) 17 due) (there .at)
-        (w .here .at + charge (kindOf (g .code)) * (4 + 16 * rows)) (rw e at is-u) in
-        rw (v .is-result, is-rows) a
-
+-- ---- check_record
+module _ (ts s : List ℕ) (w : Walk) (g : Gate) where
+  -- the answer to the gate's record, given as `pass_gate` gives it
+  module _ (u : Step) (is-u : stepOf u ≡ passAnswer s (w .here .at) (rowsStored (getD s 2 0)) (g .code) (w .z .n + w .k + 1)) where
     -- gate k of the circuit
     module _ (c o d : List ℕ) (left : ℕ) (h : w .k < gates c) (is : GateIs c (w .k) g)
         (t : Checked c ts s o (suc left) (w .k) (w .z) (w .here .at) d) where
@@ -359,7 +349,8 @@ module _ (ts s : List ℕ) (w : Walk) (g : Gate) (rows : ℕ) (is-rows : rows �
 
       at-gate : stepOf u ≡ answer (rowVerdict (circuitOf c) s (w .k)) (rowStart (circuitOf c) s (w .k + 1))
       at-gate =
-          gate-passed c (w .z) s rows (w .k) (w .here .at) (at-turn c (w .z) s (t .known) (w .k) (w .here) reading more rows is-rows) g (is .is-g) u is-u
+          gate-passed c (w .z) s (rowsStored (getD s 2 0)) (w .k) (w .here .at)
+          (at-turn c (w .z) s (t .known) (w .k) (w .here) reading more (rowsStored (getD s 2 0)) refl) g (is .is-g) u is-u
 
       past-gate : (there : Cursor) → u ≡ Step.Next there → Checked c ts s o left (w .k + 1) (w .z) (there .at) d
       past-gate there e =
@@ -380,17 +371,62 @@ module _ (ts s : List ℕ) (w : Walk) (g : Gate) (rows : ℕ) (is-rows : rows �
           verdict-material c ts s (length o) (t .known .circuit .accepted) (t .tokens) f
           (by-record c (w .z) s (t .known) (verdictOf f) v (numberOf f) (placeOf f) refl)
 
-    module _ (d : List ℕ) (r : Walk) where
-      pub check-fault : (f : Refusal) → u ≡ Step.Fault f → Ended (Evaluated.Refused f) r → CheckLeads ts s w g d r d
-      check-fault f e is-r = record {
-        on = omega (arith, is-r .over);
-        leads = λ c o left h is t. refuses c ts s o left r d f is-r (t .untouched) (stopped c o d left h is t f e);
-      }
+    goes-past : (there : Cursor) → u ≡ Step.Next there → (d : List ℕ) (r : Walk) (d′ : List ℕ) → CheckedLeads ts s (w .k) (w .z) (there .at) d r d′
+        → CheckLeads ts s w g d r d′
+    goes-past there e d r d′ next = record { on = next .on; leads = λ c o left h is t. next .leads c o left (past-gate c o d left h is t there e) }
 
-      pub check-next : (there : Cursor) → u ≡ Step.Next there → (d′ : List ℕ) → CheckedLeads ts s (w .k) (w .z) (there .at) d r d′ → CheckLeads ts s w g d r d′
-      check-next there e d′ next = record { on = next .on; leads = λ c o left h is t. next .leads c o left (past-gate c o d left h is t there e) }
+  -- a gate that has no record
+  module _ (x : ℕ) (is-x : x ≡ charge (kindOf (g .code))) where
+    module _ (e : x ≡ 0) where
+      free : charge (kindOf (g .code)) ≡ 0
+      free = sym is-x ∙ e
 
-pub ruleset check-cases = (check-fault, check-next)
+      pub free-asks : Checks ts s (w .k) (w .z) (w .here .at + charge (kindOf (g .code)) * (4 + 16 * rowsStored (getD s 2 0)))
+          → Checks ts s (w .k) (w .z) (w .here .at)
+      free-asks a = record { few = a .few; tokens = a .tokens; header = a .header; room = omega (arith, rw free at (a .room)) }
+
+      pub free-passed : (d : List ℕ) (r : Walk) (d′ : List ℕ) → CheckedLeads ts s (w .k) (w .z) (w .here .at) d r d′ → CheckLeads ts s w g d r d′
+      free-passed = goes-past (Step.Next (w .here)) (answer-free s (w .here .at) (rowsStored (getD s 2 0)) (g .code) (w .z .n + w .k + 1) free) (w .here) refl
+
+    -- a charged one
+    module _ (n : x ≡ 0 → ⊥) where
+      charged : charge (kindOf (g .code)) ≡ 0 → ⊥
+      charged e = n (is-x ∙ e)
+
+      whole : Checks ts s (w .k) (w .z) (w .here .at + charge (kindOf (g .code)) * (4 + 16 * rowsStored (getD s 2 0)))
+          → w .here .at + 4 + 16 * rowsStored (getD s 2 0) + 2 + w .z .m ≤ length s
+      whole a = omega (arith, rw (one-charged (kindOf (g .code)) charged .1) at (a .room))
+
+      pub charged-asks : Checks ts s (w .k) (w .z) (w .here .at + charge (kindOf (g .code)) * (4 + 16 * rowsStored (getD s 2 0))) → w .here .at + 4 ≤ length s
+      charged-asks a = omega (arith, whole a)
+
+      -- whether its record is there, as it was read
+      module _ (b : Bool) (is-b : b ≡ rowRecordAt s (w .here .at) (w .z .n + w .k + 1)) where
+        pub charged-wrong : not b ≡ true → (d : List ℕ) (r : Walk) (due : Wire) → due .0 ≡ w .z .n + w .k + 1 → Ended (Evaluated.Refused (RowRecord due)) r
+            → CheckLeads ts s w g d r d
+        charged-wrong e d r due is-due is-r = record {
+          on = omega (arith, is-r .over);
+          leads = λ c o left h is t.
+              refuses c ts s o left r d (RowRecord due) is-r (t .untouched)
+              (stopped (Step.Fault (RowRecord due))
+              (rw is-due (answer-wrong s (w .here .at) (rowsStored (getD s 2 0)) (g .code) (w .z .n + w .k + 1) charged (sym is-b ∙ not-true b e)))
+              c o d left h is t (RowRecord due) refl);
+        }
+
+        module _ (e : not b ≡ false) (there : Cursor) (rows : ℕ) (is-rows : rows ≡ rowsStored (getD s 2 0)) (is-there : there .at ≡ w .here .at + 4 + 16 * rows) where
+          pub charged-past : Checks ts s (w .k) (w .z) (w .here .at + charge (kindOf (g .code)) * (4 + 16 * rowsStored (getD s 2 0)))
+              → Checks ts s (w .k) (w .z) (there .at)
+          charged-past a = record { few = a .few; tokens = a .tokens; header = a .header; room = rw (is-there, is-rows) (whole a) }
+
+          pub charged-right : (d : List ℕ) (r : Walk) (d′ : List ℕ) → CheckedLeads ts s (w .k) (w .z) (there .at) d r d′ → CheckLeads ts s w g d r d′
+          charged-right =
+              goes-past (Step.Next there)
+              (answer-right s (w .here .at) (rowsStored (getD s 2 0)) (g .code) (w .z .n + w .k + 1) charged (sym is-b ∙ not-false b e) (there .at)
+              (rw is-rows at is-there)) there refl
+
+pub ruleset check-asks = (free-asks, charged-asks, charged-past)
+
+pub ruleset check-cases = (free-passed, charged-wrong, charged-right)
 
 -- ---- write_next
 module _ (s : List ℕ) (w : Walk) (g : Gate) (d d′ : List ℕ) (there : Cursor)

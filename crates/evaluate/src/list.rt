@@ -15,14 +15,14 @@ use crate::walk::write_token;
 use aes::fixed_schedule;
 use aes::t_tables;
 use buffer::copy_front;
+use circuit::code::code_charge;
 use circuit::gates::GateRead;
 use circuit::gates::read_gate;
 use circuit::header::sizes_hold;
 use material::file::check_file;
 use material::last::check_last;
 use material::records::Cursor;
-use material::records::Step;
-use material::records::pass_gate;
+use material::records::is_row;
 use material::rows_stored;
 use model::Evaluated;
 use model::Gate;
@@ -164,12 +164,16 @@ pub fn check_record(s: Walk, g: Gate, tokens: &[u8], material: &[u8], wires: &mu
 {
     let k = s.k;
     let z = s.z;
-    let due = Wire((z.n + k + 1) as u16);
-    let rows = rows_stored(material[2]);
-    match pass_gate(material, rows, g.code, due, s.here) {
-        Step::Fault(f) => ended(k, z, s.here, Evaluated::Refused(f)),
-        Step::Next(there) => record_checked(k, z, there, tokens, material, wires),
+    let here = s.here;
+    if code_charge(g.code) == 0 {
+        return record_checked(k, z, here, tokens, material, wires);
     }
+    let due = Wire((z.n + k + 1) as u16);
+    if !is_row(material, here.at, due) {
+        return ended(k, z, here, Evaluated::Refused(Refusal::RowRecord(due)));
+    }
+    let there = here.past(rows_stored(material[2]));
+    record_checked(k, z, there, tokens, material, wires)
 }
 
 // Pass 2 at gate g: its token. After the last the calls of π are the answer.

@@ -1,10 +1,9 @@
--- The row records: a law for each return of `past_if`, `next` and `pass_gate`, and the turns and ends of the way over the gates. Assumes nothing.
+-- The row records: a law for each return of `is_row`, `next` and `pass_gate`, and the turns and ends of the way over the gates. Assumes nothing.
 use Prim.Native.Nat.{ℕ, _+_, _*_, _≤_, _<_}
 use native.Mathlib.Omega.{arith}
 use mathlib.Core.Path.{_≡_, refl, sym, ap, _∙_}
-use mathlib.Core.Bool.{false, not, _&&_}
+use mathlib.Core.Bool.{Bool, true, false, not, _&&_}
 use mathlib.Core.List.{List}
-use borrow.Author.Tests.{eq-eqb, ne-eqb}
 use lib.ListN.{length, getD}
 use lib.Dec.{eqb}
 use Rattle.model.specs.declared.Gate.{Gate}
@@ -13,6 +12,7 @@ use Rattle.model.specs.declared.Kind.{Kind}
 use Rattle.model.specs.declared.Sizes.{Sizes}
 use Rattle.model.specs.declared.Refusal.{Refusal}
 use Rattle.model.specs.declared.Wire.{Wire}
+use Rattle.model.specs.Circuit as Kinds
 use Rattle.model.specs.Circuit.{circuitOf, gates, gateAt, kindOf, charge}
 use Rattle.model.specs.Material.{rowsStored}
 use Rattle.model.specs.Refusals.{fine, refused, refuse, verdictOf, firstOf, isCharged, rowStart, rowRecordAt, rowVerdict}
@@ -23,47 +23,70 @@ use Rattle.material.specs.declared.records.Cursor.{Cursor}
 use Rattle.material.specs.declared.records.Step.{Step}
 use Rattle.material.specs.declared.reader.Standing.{Standing}
 use Rattle.material.specs.Reader.{standingAt}
-use Rattle.material.specs.Answers.{Filed, AtGate, stepOf, dueAnswer, nextAnswer, passAnswer, gateAnswer, recordsVerdict}
+use Rattle.material.specs.Answers.{Filed, AtGate, stepOf, nextAnswer, passAnswer, gateAnswer, recordsVerdict}
 use Rattle.material.proofs.SizeLaws.{inputs-same, code-at, limits, is-n, is-q, few-wires}
 use Rattle.material.proofs.ReaderLaws.{isOf, row-record}
 use Rattle.material.proofs.RowLaws.{row-first, row-next, row-room, file-holds}
 
--- ---- past_if
-module _ (at rows found due : ℕ) where
-  pub due-other : (found ≡ due → ⊥) → no (refused 17 due) ≡ dueAnswer at rows found due
-  unfolding refuse
-  due-other h = simp (ne-eqb _ _ h)
-
-  pub due-found : found ≡ due → (there : ℕ) → there ≡ at + 4 + 16 * rows → yes there ≡ dueAnswer at rows found due
-  unfolding refuse
-  due-found h there e = simp (eq-eqb _ _ h, e)
-
-pub ruleset due-cases = (due-other, due-found)
-
--- ---- next: what the reader found
-module _ (s : List ℕ) (at rows due : ℕ) (room : at + 4 + 16 * rows ≤ length s) (x : Standing) (is-x : x ≡ standingAt s at) where
-  -- whether it is a gate's with the wire number due is what 17 asks
+-- ---- is_row: what the reader found
+module _ (s : List ℕ) (at due : ℕ) (room : at + 4 ≤ length s) (x : Standing) (is-x : x ≡ standingAt s at) where
   right : isOf due x ≡ rowRecordAt s at due
-  right = rw is-x (row-record s at due (omega arith))
+  right = rw is-x (row-record s at due room)
 
-  wrong : isOf due x ≡ false → no (refused 17 due) ≡ nextAnswer s at rows due
+  pub row-gate : (w : Wire) → x ≡ Standing.Gate w → eqb (w .0) due ≡ rowRecordAt s at due
+  row-gate w e = rw e at right
+
+  pub row-cut : (w : Wire) → x ≡ Standing.Cut w → eqb (w .0) due ≡ rowRecordAt s at due
+  row-cut w e = rw e at right
+
+  pub row-last : x ≡ Standing.Last → false ≡ rowRecordAt s at due
+  row-last e = rw e at right
+
+  pub row-nothing : x ≡ Standing.Nothing → false ≡ rowRecordAt s at due
+  row-nothing e = rw e at right
+
+pub ruleset row-cases = (row-gate, row-cut, row-last, row-nothing)
+
+-- ---- next
+module _ (s : List ℕ) (at rows due : ℕ) (b : Bool) (is-b : b ≡ rowRecordAt s at due) where
+  pub next-wrong : b ≡ false → no (refused 17 due) ≡ nextAnswer s at rows due
   unfolding refuse
-  wrong h = simp (← right, h)
+  next-wrong e = simp (← is-b, e)
 
-  pub next-last : x ≡ Standing.Last → no (refused 17 due) ≡ nextAnswer s at rows due
-  next-last e = wrong (rw e)
+  pub next-right : b ≡ true → (there : ℕ) → there ≡ at + 4 + 16 * rows → yes there ≡ nextAnswer s at rows due
+  unfolding refuse
+  next-right e there f = simp (← is-b, e, f)
 
-  pub next-nothing : x ≡ Standing.Nothing → no (refused 17 due) ≡ nextAnswer s at rows due
-  next-nothing e = wrong (rw e)
+pub ruleset next-cases = (next-wrong, next-right)
 
-  module _ (w : Wire) (r : Step) (is-r : stepOf r ≡ dueAnswer at rows (w .0) due) where
-    pub next-gate : x ≡ Standing.Gate w → stepOf r ≡ nextAnswer s at rows due
-    next-gate e = let h : eqb (w .0) due ≡ rowRecordAt s at due = rw e at right in is-r ∙ rw h
+-- ---- the answer of pass_gate, by the gate's charge and by whether its record is there
 
-    pub next-cut : x ≡ Standing.Cut w → stepOf r ≡ nextAnswer s at rows due
-    next-cut e = let h : eqb (w .0) due ≡ rowRecordAt s at due = rw e at right in is-r ∙ rw h
+none-charged : (k : Kinds.Kind) → charge k ≡ 0 → isCharged k ≡ false
+none-charged (Kinds.charged u v x) e = absurd (omega arith)
+none-charged (Kinds.free p q c) e = refl
+none-charged Kinds.refused e = refl
 
-pub ruleset next-cases = (next-last, next-nothing, next-gate, next-cut)
+pub one-charged : (k : Kinds.Kind) → (charge k ≡ 0 → ⊥) → (isCharged k ≡ true) × (charge k ≡ 1)
+one-charged (Kinds.charged u v x) e = (refl, refl)
+one-charged (Kinds.free p q c) e = absurd (e refl)
+one-charged Kinds.refused e = absurd (e refl)
+
+module _ (s : List ℕ) (at rows code due : ℕ) where
+  pub answer-free : charge (kindOf code) ≡ 0 → yes at ≡ passAnswer s at rows code due
+  unfolding refuse
+  answer-free e = let none : at ≡ at + 0 * (4 + 16 * rows) = omega arith in rw (none-charged (kindOf code) e, e) (ap yes none)
+
+  module _ (e : charge (kindOf code) ≡ 0 → ⊥) where
+    pub answer-wrong : rowRecordAt s at due ≡ false → no (refused 17 due) ≡ passAnswer s at rows code due
+    unfolding refuse
+    answer-wrong h = let k = one-charged (kindOf code) e in rw (k .0, h)
+
+    pub answer-right : rowRecordAt s at due ≡ true → (there : ℕ) → there ≡ at + 4 + 16 * rows → yes there ≡ passAnswer s at rows code due
+    unfolding refuse
+    answer-right h there f =
+        let k = one-charged (kindOf code) e in
+        let whole : at + 4 + 16 * rows ≡ at + 1 * (4 + 16 * rows) = omega arith in
+        rw (k .0, k .1, h, f) (ap yes whole)
 
 -- ---- pass_gate: the code's kind as it was read
 module _ (s : List ℕ) (at rows code due : ℕ) (kind : Kind) (is-kind : meaning kind ≡ kindOf code) where

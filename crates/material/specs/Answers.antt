@@ -42,10 +42,6 @@ abbrev pub stepOf : Step → Answer ℕ
 stepOf (Step.Next there) = yes (there .at)
 stepOf (Step.Fault f) = no (verdictOf f)
 
--- past a record of this many rows at an index that has a wire number, where one is due
-abbrev pub dueAnswer : ℕ → ℕ → ℕ → ℕ → Answer ℕ
-dueAnswer at rows found due = answer (refuse (not (eqb found due)) 17 due) (at + 4 + 16 * rows)
-
 -- past a record of this many rows at an index, which is due for a wire
 abbrev pub nextAnswer : List ℕ → ℕ → ℕ → ℕ → Answer ℕ
 nextAnswer s at rows due = answer (refuse (not (rowRecordAt s at due)) 17 due) (at + 4 + 16 * rows)

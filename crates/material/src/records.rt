@@ -3,8 +3,9 @@ ghost use mathlib.Core.Path.{_≡_};
 ghost use Prim.Native.Nat.{_+_, _*_, _≤_, _<_};
 ghost use lib.ListN.{length};
 ghost use Rattle.model.specs.Circuit.{kindOf, charge};
+ghost use Rattle.model.specs.Refusals.{rowRecordAt};
 ghost use Rattle.model.specs.Operations.{ranOf};
-ghost use Rattle.material.specs.Answers.{Filed, AtGate, stepOf, dueAnswer, nextAnswer, passAnswer, gateAnswer, recordsVerdict};
+ghost use Rattle.material.specs.Answers.{Filed, AtGate, stepOf, nextAnswer, passAnswer, gateAnswer, recordsVerdict};
 use crate::reader::Standing;
 use crate::reader::found_at;
 use crate::rows_stored;
@@ -45,30 +46,30 @@ impl Cursor {
         }
     }
 
-    // Past a row record of this wire number, if it is the one that is due.
-    fn past_if(self, rows: usize, found: Wire, due: Wire) -> Step
-        requires { ⌜ self .at + 4 + 16 * rows < 18446744073709551616 ⌝ }
-        ensures { λ r. ⌜ stepOf r ≡ dueAnswer (self .at) rows (found .0) (due .0) ⌝ }
-    {
-        if found.0 == due.0 {
-            Step::Next(self.past(rows))
-        } else {
-            Step::Fault(Refusal::RowRecord(due))
-        }
-    }
-
     // Past the row record here, if it has the mark 47 54 and the wire number that is due. That its rows lie within the material
     // is asked of the caller, for as many as it names.
     pub fn next(self, material: &[u8], rows: usize, due: Wire) -> Step
         requires { ⌜ self .at + 4 + 16 * rows ≤ length (now material) ⌝ }
         ensures { λ r. ⌜ stepOf r ≡ nextAnswer (now (material .entry)) (self .at) rows (due .0) ⌝ }
     {
-        match found_at(material, self.at) {
-            Standing::Gate(found) => self.past_if(rows, found, due),
-            Standing::Cut(found) => self.past_if(rows, found, due),
-            Standing::Last => Step::Fault(Refusal::RowRecord(due)),
-            Standing::Nothing => Step::Fault(Refusal::RowRecord(due)),
+        if is_row(material, self.at, due) {
+            Step::Next(self.past(rows))
+        } else {
+            Step::Fault(Refusal::RowRecord(due))
         }
+    }
+}
+
+// Whether a row record with the wire number that is due is at an index: what a reader finds there.
+pub fn is_row(material: &[u8], at: usize, due: Wire) -> bool
+    requires { ⌜ at + 4 ≤ length (now material) ⌝ }
+    ensures { λ r. ⌜ r ≡ rowRecordAt (now (material .entry)) at (due .0) ⌝ }
+{
+    match found_at(material, at) {
+        Standing::Gate(found) => found.0 == due.0,
+        Standing::Cut(found) => found.0 == due.0,
+        Standing::Last => false,
+        Standing::Nothing => false,
     }
 }
 

@@ -1,11 +1,12 @@
 use borrow.Author.Needs.{needs}
-use Rattle.evaluate.proofs.GateListLaws.{check-cases, check-room, check-past}
+use Rattle.evaluate.proofs.GateListLaws.{check-cases, check-asks}
 use Rattle.evaluate.proofs.list.check_record.Statement.{statement}
 use Rattle.evaluate.proofs.list.check_record.Tie as tie
 
 pub check-record-spec : {M : Type 1} → statement M
 check-record-spec =
     tie.close
-    (tie.spec (λ c. search needs) (λ c. search needs) (λ c. search needs) (λ c. search needs) (λ c κs. search needs)
-    (λ c κs. search check-room) (λ c. search needs) (λ c κs. search needs) (λ c. search needs) (λ c κs. search check-past)
-    (λ c. search check-cases) (λ c. search needs) (λ c. search check-cases))
+    (tie.spec (λ c κs. search needs) (λ c κs. search needs) (λ c. search needs) (λ c. search check-cases) (λ c. search needs)
+    (λ c. search needs) (λ c. search needs) (λ c κs. search needs) (λ c κs. search needs) (λ c. search check-cases)
+    (λ c. search needs) (λ c κs. search needs) (λ c κs. search needs) (λ c κs. search check-asks) (λ c. search needs)
+    (λ c. search check-cases))

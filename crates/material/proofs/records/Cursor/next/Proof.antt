@@ -6,6 +6,4 @@ use Rattle.material.proofs.records.Cursor.next.Tie as tie
 pub next-spec : {M : Type 1} → statement M
 next-spec =
     tie.close
-    (tie.spec (λ c κs. search needs) (λ c. search needs) (λ c κs. search needs) (λ c. search needs)
-    (λ c κs. search needs) (λ c. search needs) (λ c. search needs) (λ c. search next-cases) (λ c. search next-cases)
-    (λ c. search next-cases) (λ c. search next-cases))
+    (tie.spec (λ c κs. search needs) (λ c κs. search needs) (λ c. search next-cases) (λ c. search next-cases))
