@@ -5,3 +5,4 @@ mod Rounds
 mod Packing
 mod Tables
 mod Columns
+mod Spreads

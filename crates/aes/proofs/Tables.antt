@@ -73,7 +73,7 @@ each : {p q r s p′ q′ r′ s′ : ℕ} → p ≡ p′ → q ≡ q′ → r �
 each e f g h = cc
 
 -- the first of four, last
-turn : (a b c d : ℕ) → bitXor (bitXor (bitXor a b) c) d ≡ bitXor (bitXor (bitXor b c) d) a
+pub turn : (a b c d : ℕ) → bitXor (bitXor (bitXor a b) c) d ≡ bitXor (bitXor (bitXor b c) d) a
 turn a b c d = ap (λ (z : ℕ). bitXor z d) (xor-assoc a b c) ∙ xor-assoc a (bitXor b c) d ∙ xor-comm a (bitXor (bitXor b c) d)
 
 -- a column is the exclusive or of its rows, each alone, and MixColumns of it is that of theirs
@@ -91,18 +91,16 @@ module _ (m : List ℕ) (is-m : IsTTables m) where
   unfolding IsTTables
   look = is-m
 
-  pub mixed-word : (a b c d : ℕ) → d < 2 ^ 32 →
-      wordOf (bitXor (bitXor (bitXor (getD m (a % 256) 0) (getD m (256 + b / 0x100 % 256) 0)) (getD m (512 + c / 0x10000 % 256) 0)) (getD m (768 + d / 0x1000000) 0))
+  pub mixed-word : (a b c d : ℕ) →
+      wordOf (bitXor (bitXor (bitXor (getD m (a % 256) 0) (getD m (256 + byteOf b 1) 0)) (getD m (512 + byteOf c 2) 0)) (getD m (768 + byteOf d 3) 0))
       ≡ mixWord (subWord (byteOf a 0 ∷ byteOf b 1 ∷ byteOf c 2 ∷ byteOf d 3 ∷ []))
   unfolding subWord
-  mixed-word a b c d h =
-      let e0 : a % 256 ≡ 256 * 0 + byteOf a 0 = omega arith in
-      let e3 : d / 0x1000000 ≡ byteOf d 3 = omega arith in
-      let p0 : wordOf (getD m (a % 256) 0) ≡ mixWord (alone 0 (sBox (byteOf a 0))) = ap (λ (n : ℕ). wordOf (getD m n 0)) e0 ∙ look 0 (byteOf a 0) (omega arith) (omega arith) in
-      let p1 : wordOf (getD m (256 + b / 0x100 % 256) 0) ≡ mixWord (alone 1 (sBox (byteOf b 1))) = look 1 (byteOf b 1) (omega arith) (omega arith) in
-      let p2 : wordOf (getD m (512 + c / 0x10000 % 256) 0) ≡ mixWord (alone 2 (sBox (byteOf c 2))) = look 2 (byteOf c 2) (omega arith) (omega arith) in
-      let p3 : wordOf (getD m (768 + d / 0x1000000) 0) ≡ mixWord (alone 3 (sBox (byteOf d 3))) = ap (λ (n : ℕ). wordOf (getD m (768 + n) 0)) e3 ∙ look 3 (byteOf d 3) (omega arith) (omega arith) in
-      words-xor4 _ _ _ _ ∙ xor4-each p0 p1 p2 p3 ∙ mix-rows (sBox (byteOf a 0)) (sBox (byteOf b 1)) (sBox (byteOf c 2)) (sBox (byteOf d 3))
+  mixed-word a b c d =
+      let row : (r x : ℕ) → r < 4 → wordOf (getD m (256 * r + byteOf x r) 0) ≡ mixWord (alone r (sBox (byteOf x r))) = λ r x h. look r (byteOf x r) h (omega arith) in
+      let first : a % 256 ≡ 256 * 0 + byteOf a 0 = omega arith in
+      words-xor4 _ _ _ _
+      ∙ xor4-each (ap (λ (n : ℕ). wordOf (getD m n 0)) first ∙ row 0 a (omega arith)) (row 1 b (omega arith)) (row 2 c (omega arith)) (row 3 d (omega arith))
+      ∙ mix-rows (sBox (byteOf a 0)) (sBox (byteOf b 1)) (sBox (byteOf c 2)) (sBox (byteOf d 3))
 
   -- the same without MixColumns: the S-box's byte stands by itself in row 0 of table 2, row 1 of table 3, row 2 of table 0, row 3 of table 1
   pub shifted-word : (a b c d : ℕ) → d < 2 ^ 32 →

@@ -4,8 +4,9 @@ use block::Block;
 ghost use mathlib.Core.Path.{_≡_};
 ghost use mathlib.Core.List.{[], _∷_};
 ghost use Prim.Native.Nat.{_<_};
-ghost use Rattle.model.specs.Aes.{word, subWord, mixWord, subBytes, shiftRows, mixColumns, addRoundKey, aesRound};
+ghost use Rattle.model.specs.Aes.{word, subWord, subBytes, shiftRows, addRoundKey, aesRound};
 ghost use Rattle.aes.specs.Tables.{byteOf, wordOf, stateOf, IsTTables};
+ghost use Rattle.aes.specs.Round.{IsRoundKey, Spread};
 
 // The four columns of a state.
 pub struct Words {
@@ -41,18 +42,6 @@ fn key_word(w: &[u8; 176], i: usize) -> u32
 {
     let at = 4 * i;
     pack(w[at], w[at + 1], w[at + 2], w[at + 3])
-}
-
-// A column through SubBytes, ShiftRows and MixColumns: its rows are taken from the words a, b, c and d.
-fn mixed_word(m: &[u32; 1024], a: u32, b: u32, c: u32, d: u32) -> u32
-    requires { ⌜ IsTTables (now m) ⌝ }
-    ensures { λ r. ⌜ wordOf r ≡ mixWord (subWord (byteOf a 0 ∷ byteOf b 1 ∷ byteOf c 2 ∷ byteOf d 3 ∷ [])) ⌝ }
-{
-    let p = (a % 256) as usize;
-    let q = ((b >> 8) % 256) as usize;
-    let r = ((c >> 16) % 256) as usize;
-    let s = (d >> 24) as usize;
-    m[p] ^ m[256 + q] ^ m[512 + r] ^ m[768 + s]
 }
 
 // A column through SubBytes and ShiftRows alone. Table 2 has the S-box's own byte in row 0, table 3 in row 1, and so on around.
@@ -110,19 +99,6 @@ impl Words {
         }
     }
 
-    // SubBytes, ShiftRows and MixColumns, §5.1.1 to §5.1.3.
-    fn mixed(self, m: &[u32; 1024]) -> Words
-        requires { ⌜ IsTTables (now m) ⌝ }
-        ensures { λ r. ⌜ stateOf r ≡ mixColumns (shiftRows (subBytes (stateOf self))) ⌝ }
-    {
-        let s = self;
-        let a = mixed_word(m, s.a, s.b, s.c, s.d);
-        let b = mixed_word(m, s.b, s.c, s.d, s.a);
-        let c = mixed_word(m, s.c, s.d, s.a, s.b);
-        let d = mixed_word(m, s.d, s.a, s.b, s.c);
-        Words { a, b, c, d }
-    }
-
     // SubBytes and ShiftRows, §5.1.1 and §5.1.2.
     fn shifted(self, m: &[u32; 1024]) -> Words
         requires { ⌜ IsTTables (now m) ⌝ }
@@ -136,17 +112,49 @@ impl Words {
         Words { a, b, c, d }
     }
 
+    // The key of round r: four words of the schedule.
+    fn round_key(w: &[u8; 176], r: usize) -> Words
+        requires { ⌜ r < 11 ⌝ }
+        ensures { λ k. ⌜ IsRoundKey (now (w .entry)) r k ⌝ }
+    {
+        let i = 4 * r;
+        let a = key_word(w, i);
+        let b = key_word(w, i + 1);
+        let c = key_word(w, i + 2);
+        let d = key_word(w, i + 3);
+        Words { a, b, c, d }
+    }
+
     // AddRoundKey, §5.1.4: the key of round r is exclusive-ored in.
     fn add_round_key(self, w: &[u8; 176], r: usize) -> Words
         requires { ⌜ r < 11 ⌝ }
         ensures { λ q. ⌜ stateOf q ≡ addRoundKey (now (w .entry)) r (stateOf self) ⌝ }
     {
-        let i = 4 * r;
-        let a = self.a ^ key_word(w, i);
-        let b = self.b ^ key_word(w, i + 1);
-        let c = self.c ^ key_word(w, i + 2);
-        let d = self.d ^ key_word(w, i + 3);
-        Words { a, b, c, d }
+        let k = Words::round_key(w, r);
+        Words {
+            a: self.a ^ k.a,
+            b: self.b ^ k.b,
+            c: self.c ^ k.c,
+            d: self.d ^ k.d,
+        }
+    }
+
+    // What a column x of the state before gives to the four columns after SubBytes, ShiftRows and MixColumns, exclusive-ored in: its
+    // row 0 goes to its own column, which is the first here, row 1 to the one before, and so on around. Then the next column comes
+    // first: after four columns they stand in their order again.
+    fn spread(self, m: &[u32; 1024], x: u32) -> Words
+        ensures { λ q. ⌜ Spread (now (m .entry)) self x q ⌝ }
+    {
+        let a = self.a ^ m[(x % 256) as usize];
+        let d = self.d ^ m[256 + ((x >> 8) % 256) as usize];
+        let c = self.c ^ m[512 + ((x >> 16) % 256) as usize];
+        let b = self.b ^ m[768 + ((x >> 24) % 256) as usize];
+        Words {
+            a: b,
+            b: c,
+            c: d,
+            d: a,
+        }
     }
 
     // A block after the first AddRoundKey.
@@ -156,13 +164,18 @@ impl Words {
         Words::of_block(x).add_round_key(w, 0)
     }
 
-    // A round but the last.
+    // A round but the last. The key comes first and each column is looked up at once and then done with: so the columns before and
+    // after the round stay in registers.
     pub fn round(self, m: &[u32; 1024], w: &[u8; 176], r: usize) -> Words
         requires { ⌜ IsTTables (now m) ⌝ }
         requires { ⌜ r < 11 ⌝ }
         ensures { λ q. ⌜ stateOf q ≡ aesRound (now (w .entry)) r (stateOf self) ⌝ }
     {
-        self.mixed(m).add_round_key(w, r)
+        let k = Words::round_key(w, r);
+        k.spread(m, self.a)
+            .spread(m, self.b)
+            .spread(m, self.c)
+            .spread(m, self.d)
     }
 
     // The last round, which has no MixColumns.

@@ -1,19 +1,18 @@
-use mathlib.Core.Path.{refl}
 use Prim.Native.Nat.{_-_}
 use native.Mathlib.Omega.{arith}
 use borrow.Author.Needs.{needs}
-use Rattle.aes.proofs.Rounds.{Through, rounds-none, rounds-start, rounds-turn, rounds-end}
+use Rattle.aes.proofs.Rounds.{Through, rounds-start, rounds-turn, rounds-end}
 use Rattle.aes.proofs.cipher.encrypt.Statement.{statement}
 use Rattle.aes.proofs.cipher.encrypt.Tie as tie
 
 abbrev Inv-loop : tie.InvT-loop
-Inv-loop t w s₀ r₀ s r = Through w 0 (s₀ .bytes) r (s .bytes)
+Inv-loop t w s₀ r₀ s r = Through w (s₀ .bytes) r (s .bytes)
 
 abbrev μ-loop : tie.MeasureT-loop
 μ-loop t w s₀ r₀ s r = 10 - r
 
 loop-holds : tie.Need-loop-holds Inv-loop μ-loop
-loop-holds c = rounds-start refl (omega arith)
+loop-holds c = rounds-start
 
 loop-again : tie.Need-loop-again Inv-loop μ-loop
 loop-again c = rounds-turn (c .before .before .loop .inv) (c .round .ensures) (omega arith)
@@ -21,7 +20,7 @@ loop-again c = rounds-turn (c .before .before .loop .inv) (c .round .ensures) (o
 returns : tie.Need-returns Inv-loop μ-loop
 returns c =
     let l = c .before .before .before in
-    rounds-end (l .loop .inv) (omega arith) (c .before .last-round .ensures) _ (rounds-none _ _ (l .before .add-round-key .ensures))
+    rounds-end (l .loop .inv) (omega arith) (c .before .last-round .ensures) _ (l .before .add-round-key .ensures)
 
 pub encrypt-spec : {M : Type 1} → statement M
 encrypt-spec =

@@ -1,20 +1,19 @@
-use mathlib.Core.Path.{refl}
 use borrow.Author.Needs.{needs}
 use Prim.Native.Nat.{_-_}
 use native.Mathlib.Omega.{arith}
 use Rattle.aes.specs.Tables.{stateOf}
-use Rattle.aes.proofs.Rounds.{Through, rounds-none, rounds-start, rounds-turn, rounds-end}
+use Rattle.aes.proofs.Rounds.{Through, rounds-start, rounds-turn, rounds-end}
 use Rattle.aes.proofs.fast.encrypt_fast.Statement.{statement}
 use Rattle.aes.proofs.fast.encrypt_fast.Tie as tie
 
 abbrev Inv-loop : tie.InvT-loop
-Inv-loop m w s₀ r₀ s r = Through w 0 (stateOf s₀) r (stateOf s)
+Inv-loop m w s₀ r₀ s r = Through w (stateOf s₀) r (stateOf s)
 
 abbrev μ-loop : tie.MeasureT-loop
 μ-loop m w s₀ r₀ s r = 10 - r
 
 loop-holds : tie.Need-loop-holds Inv-loop μ-loop
-loop-holds c = rounds-start refl (omega arith)
+loop-holds c = rounds-start
 
 loop-again : tie.Need-loop-again Inv-loop μ-loop
 loop-again c = rounds-turn (c .before .before .loop .inv) (c .round .ensures) (omega arith)
@@ -22,7 +21,7 @@ loop-again c = rounds-turn (c .before .before .loop .inv) (c .round .ensures) (o
 returns : tie.Need-returns Inv-loop μ-loop
 returns c =
     let l = c .before .before in
-    rounds-end (l .loop .inv) (omega arith) (c .last-round .ensures) _ (rounds-none _ _ (l .before .start .ensures))
+    rounds-end (l .loop .inv) (omega arith) (c .last-round .ensures) _ (l .before .start .ensures)
 
 pub encrypt-fast-spec : {M : Type 1} → statement M
 encrypt-fast-spec =

@@ -9,7 +9,4 @@ unfolding stateOf
 returns c = search keyed-state
 
 pub add-round-key-spec : {M : Type 1} → statement M
-add-round-key-spec =
-    tie.close
-    (tie.spec (λ c. search needs) (λ c κs. search needs) (λ c. search needs) (λ c κs. search needs) (λ c. search needs) (λ c κs. search needs)
-    (λ c. search needs) (λ c κs. search needs) returns)
+add-round-key-spec = tie.close (tie.spec (λ c κs. search needs) returns)

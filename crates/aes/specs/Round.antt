@@ -1,0 +1,23 @@
+-- The parts of a round on packed columns: the round's key, and what one column gives to those after it. FIPS 197, whose sections (§) are named.
+use Prim.Native.Nat.{ℕ, _+_, _*_, _%_}
+use mathlib.Core.Path.{_≡_}
+use mathlib.Core.List.{List}
+use lib.Bits.{bitXor}
+use lib.ListN.{getD}
+use Rattle.model.specs.Aes.{word}
+use Rattle.aes.specs.declared.packed.Words.{Words}
+use Rattle.aes.specs.Tables.{byteOf, wordOf}
+
+-- the four words of the key of round r of the schedule w, §5.2
+pub record IsRoundKey (w : List ℕ) (r : ℕ) (k : Words) : Type 0 where
+  pub is-a : wordOf (k .a) ≡ word w (4 * r)
+  pub is-b : wordOf (k .b) ≡ word w (4 * r + 1)
+  pub is-c : wordOf (k .c) ≡ word w (4 * r + 2)
+  pub is-d : wordOf (k .d) ≡ word w (4 * r + 3)
+
+-- the column x, looked up in the tables m row by row, is exclusive-ored into the columns s, of which the first is its own; then the next comes first
+pub record Spread (m : List ℕ) (s : Words) (x : ℕ) (q : Words) : Type 0 where
+  pub row-0 : q .d ≡ bitXor (s .a) (getD m (x % 256) 0)
+  pub row-1 : q .c ≡ bitXor (s .d) (getD m (256 + byteOf x 1) 0)
+  pub row-2 : q .b ≡ bitXor (s .c) (getD m (512 + byteOf x 2) 0)
+  pub row-3 : q .a ≡ bitXor (s .b) (getD m (768 + byteOf x 3) 0)
