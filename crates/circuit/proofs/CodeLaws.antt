@@ -83,6 +83,7 @@ module _ (code : ℕ) where
       where
         none : charge refused ≡ 1 → ⊥
         none e = omega arith
+
         go : (k : Kind) → read code k ≡ k → charge k ≡ 1
             → charged (0x0990 / 2 ^ code % 2) (0x2184 / 2 ^ code % 2) (0x0116 / 2 ^ code % 2) ≡ k
         go (charged _ _ _) e _ = e

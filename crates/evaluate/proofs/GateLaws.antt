@@ -1,4 +1,4 @@
--- One gate, evaluated: the rows that are loaded from its record, and its token by each scheme and each kind of gate. Assumes nothing.
+-- One gate, evaluated: the rows that are loaded from its record, and its token by each scheme; and that of a gate that is not charged. Assumes nothing.
 use Prim.Native.Nat.{ℕ, zero, suc, _+_, _*_, _-_, _≤_, _<_}
 use native.Mathlib.Omega.{arith}
 use mathlib.Core.Path.{_≡_, refl, sym, ap, _∙_}
@@ -8,23 +8,19 @@ use lib.ListN.{length, getD, take, drop}
 use lib.Seq.{drop-drop}
 use Rattle.model.specs.declared.Kind as Kinds
 use Rattle.model.specs.declared.Truth.{Truth}
-use Rattle.model.specs.Circuit.{Kind, charged, free, refused, kindOf, value}
+use Rattle.model.specs.Circuit.{charged, free, refused, kindOf, charge, value}
 use Rattle.model.specs.Aes.{Block, block}
 use Rattle.model.specs.Tokens.{colour, freeToken}
 use Rattle.model.specs.Gax.{dualKey, openRow, gax}
 use Rattle.model.specs.Gaxr.{gaxr}
 use Rattle.model.specs.HalfGates.{hash, joined, half}
 use Rattle.model.specs.Garbling.{schemeOf}
-use Rattle.model.specs.Material.{rowsStored}
 use Rattle.model.specs.Evaluation.{cut, openAt}
 use Rattle.model.proofs.Bits.{Bit, b0, b1}
 use Rattle.model.proofs.Blocks.{cut-at}
 use Rattle.model.proofs.Codes.{Means, code-means}
-use Rattle.model.proofs.Schemes.{rows-stored}
-use Rattle.block.specs.declared.Block as Blocks
 use Rattle.circuit.specs.Answers.{meaning}
-use Rattle.material.specs.declared.records.Cursor.{Cursor}
-use Rattle.evaluate.specs.Gate.{RowRoom, RecordRoom, GateRoom, OpenedIs}
+use Rattle.evaluate.specs.Gate.{RowRoom, RecordRoom, OpenedFree}
 
 -- row j of k rows that start at an index
 row-at : (k j first : ℕ) (s : List ℕ) → j < k → take 16 (drop (first + 16 * j) s) ≡ getD (cut k (drop first s)) j (block 0)
@@ -103,29 +99,20 @@ pub ruleset charged-rooms = (gax-room, gaxr-room, half-room-g, half-room-e)
 
 pub ruleset charged-opens = (gax-opens, gaxr-opens, half-opens)
 
--- ---- open_gate: k is its kind
+-- ---- open_free: k is the code's kind
 
 low : {x : ℕ} → Bit x → x ≤ 1
 low b0 = omega arith
 low b1 = omega arith
 
-module _ (scheme code : ℕ) (k : Kinds.Kind) (is-k : meaning k ≡ kindOf code) where
-  module _ (u v own : Truth) (e : k ≡ Kinds.Kind.Charged u v own) where
-    is-charged : kindOf code ≡ charged (u .0) (v .0) (own .0)
-    is-charged = sym (rw e at is-k)
-
-    pub charged-room : (at : ℕ) (s : List ℕ) → GateRoom scheme code at s → RecordRoom scheme at s
-    charged-room at s r = let h = rw is-charged at (r .room) in record { low = r .low; high = r .high; room = omega arith }
-
-    pub charged-opened : (at : ℕ) (s : List ℕ) → GateRoom scheme code at s → (g rows : ℕ) (a b : Block) (token : Blocks.Block)
-        → token .bytes ≡ schemeOf scheme .opened g (cut (schemeOf scheme .stored) (drop 4 (drop at s))) a b → rows ≡ rowsStored scheme
-        → (next : Cursor) → next .at ≡ at + 4 + 16 * rows
-        → OpenedIs scheme g code a b s at (record { token = token; next = next })
-    unfolding openAt
-    charged-opened at s r g rows a b token is-token is-rows next is-next = record {
-      is-token = rw is-charged is-token;
-      is-next = is-next ∙ rw (is-charged, rows-stored scheme (r .low) (r .high), ← is-rows) (omega arith);
-    }
+module _ (code : ℕ) (k : Kinds.Kind) (is-k : meaning k ≡ kindOf code) where
+  pub not-charged : (u v own : Truth) → k ≡ Kinds.Kind.Charged u v own → charge (kindOf code) ≡ 0 → (a b x : Block) → OpenedFree code a b x
+  not-charged u v own e h a b x =
+      let f : kindOf code ≡ charged (u .0) (v .0) (own .0) = sym (rw e at is-k) in
+      absurd (none (rw f at h))
+    where
+      none : charge (charged (u .0) (v .0) (own .0)) ≡ 0 → ⊥
+      none l = omega arith
 
   module _ (p q c : ℕ) (e : k ≡ Kinds.Kind.Free p q c) where
     is-free : kindOf code ≡ free p q c
@@ -140,19 +127,17 @@ module _ (scheme code : ℕ) (k : Kinds.Kind) (is-k : meaning k ≡ kindOf code)
     pub free-q : q ≤ 1
     free-q = low (table .bit-q)
 
-    pub free-opened : (here : Cursor) (s : List ℕ) (g : ℕ) (a b : Block) (token : Blocks.Block) → token .bytes ≡ freeToken p q a b
-        → OpenedIs scheme g code a b s (here .at) (record { token = token; next = here })
+    pub free-opened : (a b x : Block) → x ≡ freeToken p q a b → OpenedFree code a b x
     unfolding openAt
-    free-opened here s g a b token is-token = record { is-token = rw is-free is-token; is-next = rw is-free (omega arith) }
+    free-opened a b x is-x = record { is-token = λ S g bs. rw is-free is-x }
 
-  pub refused-opened : k ≡ Kinds.Kind.Refused → (here : Cursor) (s : List ℕ) (g : ℕ) (a b : Block) (token : Blocks.Block) → token .bytes ≡ block 0
-      → OpenedIs scheme g code a b s (here .at) (record { token = token; next = here })
+  pub refused-opened : k ≡ Kinds.Kind.Refused → (a b x : Block) → x ≡ block 0 → OpenedFree code a b x
   unfolding openAt
-  refused-opened e here s g a b token is-token =
+  refused-opened e a b x is-x =
       let f : kindOf code ≡ refused = sym (rw e at is-k) in
-      record { is-token = rw f is-token; is-next = rw f (omega arith) }
+      record { is-token = λ S g bs. rw f is-x }
 
-pub ruleset gate-opens = (charged-opened, free-opened, refused-opened)
+pub ruleset free-opens = (not-charged, free-p, free-q, free-opened, refused-opened)
 
 -- ---- calls_made
 module _ (scheme p : ℕ) where

@@ -1,6 +1,7 @@
 -- Evaluation over a list of gate records: a law for each return of the functions of src/list.rt. Assumes nothing.
 use Prim.Native.Nat.{ℕ, suc, _+_, _*_, _≤_, _<_}
 use native.Mathlib.Numerals.{add-one}
+use native.Mathlib.Decide.{decLt}
 use native.Mathlib.Omega.{arith}
 use mathlib.Core.Path.{_≡_, refl, sym, ap, _∙_}
 use mathlib.Core.Bool.{Bool, true, false, not, _&&_}
@@ -40,10 +41,11 @@ use Rattle.material.proofs.RecordLaws.{Reading, at-turn, gate-passed, turn-next
 use Rattle.material.proofs.MaterialLaws.{by-record, by-last, material-file, filed}
 use Rattle.evaluate.specs.declared.list.Walk.{Walk}
 use Rattle.evaluate.specs.Answers.{restVerdict}
-use Rattle.evaluate.specs.Walk.{TokenIs, WiresStart, Walking}
-use Rattle.evaluate.specs.GateList.{Ended, GoesTo, Begun, GateIs, Tried, Checked, Written, Stands, TriedLeads, TryLeads, CheckedLeads, CheckLeads, WriteLeads, Few, Checks, Writes}
+use Rattle.evaluate.specs.Gate.{RecordRoom}
+use Rattle.evaluate.specs.Walk.{TokenStart, TokenIs, FreeTokenIs, WiresStart, Walking}
+use Rattle.evaluate.specs.GateList.{Ended, GoesTo, Begun, Onward, GateIs, Tried, Checked, Written, Stands, TriedLeads, TryLeads, CheckedLeads, CheckLeads, WriteLeads, Few, Checks, Writes}
 use Rattle.evaluate.proofs.ReadyLaws.{evaluate-verdict}
-use Rattle.evaluate.proofs.WalkLaws.{walk-start, walk-turn, walk-end, wires-walk, wires-done}
+use Rattle.evaluate.proofs.WalkLaws.{past-is, charged-room, charge-cases, walk-start, walk-turn, walk-end, wires-walk, wires-done}
 use Rattle.evaluate.proofs.EvaluateLaws.{evaluate-start, evaluate-done}
 
 -- ---- begin
@@ -428,6 +430,22 @@ pub ruleset check-asks = (free-asks, charged-asks, charged-past)
 
 pub ruleset check-cases = (free-passed, charged-wrong, charged-right)
 
+-- ---- token_written
+module _ (scheme k : ℕ) (z : Sizes) (there : Cursor) (r : Walk) where
+  pub onward-more : k + 1 < z .q → GoesTo 2 (k + 1) z there r → Onward scheme k z there r
+  onward-more h goes = record { goes = λ l. goes; stops = λ l. absurd (not-both l) }
+    where
+      not-both : z .q ≤ k + 1 → ⊥
+      not-both l = omega arith
+
+  pub onward-last : z .q ≤ k + 1 → (calls : ℕ) → calls ≡ z .p * schemeOf scheme .evaluateCalls → Ended (Evaluated.Done calls) r → Onward scheme k z there r
+  onward-last h calls is-calls e = record { goes = λ l. absurd (not-both l); stops = λ l. rw (← is-calls) e }
+    where
+      not-both : k + 1 < z .q → ⊥
+      not-both l = omega arith
+
+pub ruleset onward-cases = (onward-more, onward-last)
+
 -- ---- write_next
 module _ (s : List ℕ) (w : Walk) (g : Gate) (d d′ : List ℕ) (there : Cursor)
     (is : TokenIs (getD s 2 0) (w .z .n) (w .k) g s (w .here .at) d (there .at) d′) (r : Walk) where
@@ -440,7 +458,7 @@ module _ (s : List ℕ) (w : Walk) (g : Gate) (d d′ : List ℕ) (there : Curso
       walk-turn c s _ _ (over ts o) (wires-walk c ts s _ _ o (wires c ts s o (w .z) known (t .fit)) (over ts o) refl) (w .k) (w .here .at) d (t .so-far) h
       (there .at) d′ step
 
-  pub write-more : w .k + 1 < w .z .q → GoesTo 2 (w .k + 1) (w .z) there r → WriteLeads s w g d r d′
+  write-more : w .k + 1 < w .z .q → GoesTo 2 (w .k + 1) (w .z) there r → WriteLeads s w g d r d′
   write-more h goes = record {
     on = omega (arith, goes .is-pass);
     leads = λ c ts o left more gate t.
@@ -449,9 +467,8 @@ module _ (s : List ℕ) (w : Walk) (g : Gate) (d d′ : List ℕ) (there : Curso
         (record { sizes = t .sizes; fit = t .fit; so-far = one-more c ts o left more gate t; turns = omega (arith, t .turns) });
   }
 
-  pub write-last : w .z .q ≤ w .k + 1 → (calls : ℕ) → calls ≡ w .z .p * schemeOf (getD s 2 0) .evaluateCalls → Ended (Evaluated.Done calls) r
-      → WriteLeads s w g d r d′
-  write-last h calls is-calls e = record {
+  write-last : w .z .q ≤ w .k + 1 → Ended (Evaluated.Done (w .z .p * schemeOf (getD s 2 0) .evaluateCalls)) r → WriteLeads s w g d r d′
+  write-last h e = record {
     on = omega (arith, e .over);
     leads = λ c ts o left more gate t.
         let known = accepted-by c ts s o (w .z) (t .sizes) (t .fit) in
@@ -460,10 +477,34 @@ module _ (s : List ℕ) (w : Walk) (g : Gate) (d d′ : List ℕ) (there : Curso
         (omega (arith, is-q c (w .z) known)) in
         let left-is = wires-done c ts s _ _ o start (over ts o) refl d′ all in
         ends c ts s o left r d′ (e .over)
-        (rw (e .answered) (evaluate-done c ts s o (Ready.Go (w .z)) (rw (t .fit, ← t .sizes)) (w .z) refl calls is-calls d′ left-is));
+        (rw (e .answered) (evaluate-done c ts s o (Ready.Go (w .z)) (rw (t .fit, ← t .sizes)) (w .z) refl _ refl d′ left-is));
   }
 
-pub ruleset write-cases = (write-more, write-last)
+  write-on : Onward (getD s 2 0) (w .k) (w .z) there r → WriteLeads s w g d r d′
+  write-on next = go (decLt (w .k + 1) (w .z .q))
+    where
+      go : Dec (w .k + 1 < w .z .q) → WriteLeads s w g d r d′
+      go (Dec.yes h) = write-more h (next .goes h)
+      go (Dec.no h) = let l : w .z .q ≤ w .k + 1 = omega arith in write-last l (next .stops l)
+
+-- the same after a gate that is not charged
+pub write-on-free : (s : List ℕ) (w : Walk) (g : Gate) (d d′ : List ℕ) → FreeTokenIs (w .z .n) (w .k) g d d′ → (r : Walk)
+    → Onward (getD s 2 0) (w .k) (w .z) (w .here) r → WriteLeads s w g d r d′
+write-on-free s w g d d′ is r next = write-on s w g d d′ (w .here) (is .left (getD s 2 0) s (w .here .at)) r next
+
+-- the same after a charged gate
+module _ (s : List ℕ) (w : Walk) (g : Gate) (d : List ℕ) (start : TokenStart (getD s 2 0) (w .z .n) (w .k) g s (w .here .at) d) (h : charge (kindOf (g .code)) ≡ 1) where
+  pub write-room : RecordRoom (getD s 2 0) (w .here .at) s
+  write-room = charged-room (getD s 2 0) (g .code) (w .here .at) s (start .record-room) h
+
+  module _ (rows : ℕ) (is-rows : rows ≡ rowsStored (getD s 2 0)) where
+    pub write-on-charged : (there : Cursor) → there .at ≡ w .here .at + 4 + 16 * rows → (d′ : List ℕ)
+        → TokenIs (getD s 2 0) (w .z .n) (w .k) g s (w .here .at) d (w .here .at + (4 + 16 * schemeOf (getD s 2 0) .stored)) d′ → (r : Walk)
+        → Onward (getD s 2 0) (w .k) (w .z) there r → WriteLeads s w g d r d′
+    write-on-charged there e d′ is r next =
+        write-on s w g d d′ there (rw (past-is (getD s 2 0) (w .here .at) s write-room rows is-rows (there .at) e) is) r next
+
+pub ruleset write-cases = (write-on-free, write-room, write-on-charged, charge-cases)
 
 -- what is lent
 module _ (t k s d : List ℕ) (w : Walk) (g : Gate) (asked : Writes t k s d w g) where

@@ -11,9 +11,11 @@ use mir.Syntax.{w16}
 use mir.Val.{Fits}
 use Rattle.model.specs.declared.Gate.{Gate}
 use Rattle.model.specs.Bytes.{tabulate, over, put}
-use Rattle.model.specs.Circuit.{circuitOf, inputs, gates, gateAt, gateWire, kindOf, charge, charges, wire}
+use Rattle.model.specs.Circuit.{Kind, charged, free, refused, circuitOf, inputs, gates, gateAt, gateWire, kindOf, charge, charges, wire}
 use Rattle.model.specs.Aes.{Block, block}
-use Rattle.model.specs.Material.{joinBlocks, materialLength}
+use Rattle.model.specs.Scheme.{Scheme}
+use Rattle.model.specs.Garbling.{schemeOf}
+use Rattle.model.specs.Material.{joinBlocks, materialLength, rowsStored}
 use Rattle.model.specs.Evaluation.{cut, openAt, openStep, run, evaluate, evaluateBytes, tokenAt}
 use Rattle.model.proofs.Accepted.{HeaderHolds, GateHolds, accepted-header, accepted-gate}
 use Rattle.model.proofs.Lists.{tabulate-snoc, tabulate-length}
@@ -24,17 +26,29 @@ use Rattle.model.proofs.Gates.{recordLength, open-at-wide}
 use Rattle.model.proofs.Lengths.{run-blocks}
 use Rattle.model.proofs.OneMore.{run-snoc}
 use Rattle.model.proofs.Schemes.{scheme-sound, rows-stored}
-use Rattle.evaluate.specs.declared.gate.Opened.{Opened}
-use Rattle.evaluate.specs.Gate.{OpenedIs}
-use Rattle.evaluate.specs.Walk.{TokenStart, TokenIs, StepStart, WalkStart, WiresStart, S, tokensTo, recordStart, Walking}
+use Rattle.evaluate.specs.Gate.{RecordRoom, GateRoom, OpenedFree}
+use Rattle.evaluate.specs.Walk.{Operands, TokenStart, TokenIs, FreeTokenIs, StepStart, WalkStart, WiresStart, S, tokensTo, recordStart, Walking}
 
--- ---- write_token
-module _ (scheme n k : ℕ) (g : Gate) (s : List ℕ) (at : ℕ) (d : List ℕ) (start : TokenStart scheme n k g s at d) where
+-- a charged gate's token, by its scheme
+charged-opens : (S : Scheme) (k : Kind) → charge k ≡ 1 → (g : ℕ) (bs : List ℕ) (A B : Block) → openAt S k g bs A B ≡ S .opened g (cut (S .stored) (drop 4 bs)) A B
+unfolding openAt
+charged-opens S (charged u v x) h g bs A B = refl
+charged-opens S (free p q c) h g bs A B = absurd (not-one h)
+  where
+    not-one : charge (free p q c) ≡ 1 → ⊥
+    not-one l = omega arith
+charged-opens S refused h g bs A B = absurd (not-one h)
+  where
+    not-one : charge refused ≡ 1 → ⊥
+    not-one l = omega arith
+
+-- ---- write_free and write_charged
+module _ (n k : ℕ) (g : Gate) (d : List ℕ) (start : Operands n k g d) where
   pub token-own : Fits w16 (n + k + 1)
   token-own = omega (arith, start .few)
 
   pub token-low-b : 1 ≤ g .b
-  token-low-b = omega (arith, start .order)
+  token-low-b = omega (arith, start .a-low, start .order)
 
   pub token-load-a : 16 * (g .a - 1) + 16 ≤ length d
   token-load-a = omega (arith, start .a-low, start .order, start .b-high, start .token-room)
@@ -42,13 +56,35 @@ module _ (scheme n k : ℕ) (g : Gate) (s : List ℕ) (at : ℕ) (d : List ℕ) 
   pub token-load-b : 16 * (g .b - 1) + 16 ≤ length d
   token-load-b = omega (arith, start .order, start .b-high, start .token-room)
 
-  pub token-done : (A B : Block) → A ≡ take 16 (drop (16 * (g .a - 1)) d) → B ≡ take 16 (drop (16 * (g .b - 1)) d)
-      → (x : Opened) → OpenedIs scheme (n + k + 1) (g .code) A B s at x → (d′ : List ℕ) → d′ ≡ put d (16 * (n + k)) (x .token .bytes)
-      → TokenIs scheme n k g s at d (x .next .at) d′
+module _ (n k : ℕ) (g : Gate) (d : List ℕ) (A B : Block) (is-A : A ≡ take 16 (drop (16 * (g .a - 1)) d)) (is-B : B ≡ take 16 (drop (16 * (g .b - 1)) d))
+    (x : Block) (d′ : List ℕ) (is-d : d′ ≡ put d (16 * (n + k)) x) where
+  pub free-done : charge (kindOf (g .code)) ≡ 0 → OpenedFree (g .code) A B x → FreeTokenIs n k g d d′
   unfolding tokenAt
-  token-done A B is-A is-B x is-x d′ is-d = record { token-left = is-d ∙ rw (is-x .is-token, is-A, is-B); is-next = is-x .is-next }
+  free-done h is-x = record {
+    left = λ scheme s at. record {
+      token-left = is-d ∙ rw (is-x .is-token (schemeOf scheme) (gateWire n k) (drop at s), is-A, is-B);
+      is-next = rw h (omega arith);
+    };
+  }
 
-pub ruleset token-cases = (token-own, token-low-b, token-load-a, token-load-b)
+  pub charged-done : (scheme : ℕ) (s : List ℕ) (at : ℕ) → charge (kindOf (g .code)) ≡ 1
+      → x ≡ schemeOf scheme .opened (n + k + 1) (cut (schemeOf scheme .stored) (drop 4 (drop at s))) A B
+      → TokenIs scheme n k g s at d (at + (4 + 16 * schemeOf scheme .stored)) d′
+  unfolding tokenAt
+  charged-done scheme s at h is-x = record {
+    token-left = is-d ∙ rw (is-x ∙ sym (charged-opens (schemeOf scheme) (kindOf (g .code)) h (gateWire n k) (drop at s) A B), is-A, is-B);
+    is-next = rw h (omega arith);
+  }
+
+pub ruleset token-cases = (token-own, token-low-b, token-load-a, token-load-b, free-done, charged-done)
+
+-- ---- past a charged gate's record, of as many rows as its scheme stores
+module _ (scheme at : ℕ) (s : List ℕ) (r : RecordRoom scheme at s) (rows : ℕ) (is-rows : rows ≡ rowsStored scheme) where
+  pub past-is : (next : ℕ) → next ≡ at + 4 + 16 * rows → next ≡ at + (4 + 16 * schemeOf scheme .stored)
+  past-is next e = rw (rows-stored scheme (r .low) (r .high), ← is-rows) (e ∙ omega arith)
+
+pub charged-room : (scheme code at : ℕ) (s : List ℕ) → GateRoom scheme code at s → charge (kindOf code) ≡ 1 → RecordRoom scheme at s
+charged-room scheme code at s r h = let l = rw h at (r .room) in record { low = r .low; high = r .high; room = omega arith }
 
 -- ---- write_token_at
 module _ (scheme : ℕ) (c : List ℕ) (n k : ℕ) (s : List ℕ) (at : ℕ) (d : List ℕ) (start : StepStart scheme c n k s at d) where
@@ -65,17 +101,42 @@ module _ (scheme : ℕ) (c : List ℕ) (n k : ℕ) (s : List ℕ) (at : ℕ) (d 
   step-token g is-g =
       let held : GateHolds (gateWire n k) g = rw (is-g, start .is-n) (accepted-gate c k (start .accepted) (start .more)) in
       record {
-        few = omega (arith, in-circuit .sizes .sum, start .more, start .is-n);
-        a-low = held .a-low;
-        order = held .order;
-        b-high = held .b-high;
+        operands = record {
+          few = omega (arith, in-circuit .sizes .sum, start .more, start .is-n);
+          a-low = held .a-low;
+          order = held .order;
+          b-high = held .b-high;
+          token-room = start .token-room;
+        };
         record-room = rw is-g (start .record-room);
-        token-room = start .token-room;
       }
 
-  pub step-done : (g : Gate) → g ≡ gateAt c k → (next : ℕ) (d′ : List ℕ) → TokenIs scheme n k g s at d next d′
-      → TokenIs scheme n k (gateAt c k) s at d next d′
-  step-done g is-g next d′ t = rw (← is-g) t
+  pub step-operands : (g : Gate) → g ≡ gateAt c k → Operands n k g d
+  step-operands g is-g = step-token g is-g .operands
+
+  pub step-room : (g : Gate) → g ≡ gateAt c k → charge (kindOf (g .code)) ≡ 1 → RecordRoom scheme at s
+  step-room g is-g h = charged-room scheme (g .code) at s (step-token g is-g .record-room) h
+
+  pub step-free : (g : Gate) → g ≡ gateAt c k → (d′ : List ℕ) → FreeTokenIs n k g d d′ → TokenIs scheme n k (gateAt c k) s at d at d′
+  step-free g is-g d′ t = rw (← is-g) (t .left scheme s at)
+
+  module _ (g : Gate) (is-g : g ≡ gateAt c k) (h : charge (kindOf (g .code)) ≡ 1) (rows : ℕ) (is-rows : rows ≡ rowsStored scheme) where
+    pub step-charged : (next : ℕ) → next ≡ at + 4 + 16 * rows → (d′ : List ℕ) → TokenIs scheme n k g s at d (at + (4 + 16 * schemeOf scheme .stored)) d′
+        → TokenIs scheme n k (gateAt c k) s at d next d′
+    step-charged next e d′ t = rw (past-is scheme at s (step-room g is-g h) rows is-rows next e, ← is-g) t
+
+-- a charge that is not 0 is 1
+pub step-one : (k : Kind) (x : ℕ) → x ≡ charge k → (x ≡ 0 → ⊥) → charge k ≡ 1
+step-one (charged u v y) x e h = refl
+step-one (free p q c) x e h = absurd (h e)
+step-one refused x e h = absurd (h e)
+
+pub step-none : (k : Kind) (x : ℕ) → x ≡ charge k → x ≡ 0 → charge k ≡ 0
+step-none k x e h = sym e ∙ h
+
+pub ruleset charge-cases = (step-none, step-one)
+
+pub ruleset step-cases = (step-record, step-small, step-operands, step-room, step-free, step-charged, charge-cases)
 
 -- ---- write_tokens
 

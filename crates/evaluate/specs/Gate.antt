@@ -2,12 +2,12 @@
 use Prim.Native.Nat.{ℕ, _+_, _*_, _≤_}
 use mathlib.Core.Path.{_≡_}
 use mathlib.Core.List.{List}
-use lib.ListN.{length, drop}
+use lib.ListN.{length}
 use Rattle.model.specs.Circuit.{kindOf, charge}
 use Rattle.model.specs.Aes.{Block}
+use Rattle.model.specs.Scheme.{Scheme}
 use Rattle.model.specs.Garbling.{schemeOf}
 use Rattle.model.specs.Evaluation.{openAt}
-use Rattle.evaluate.specs.declared.gate.Opened.{Opened}
 
 -- room for rows 1 to 3 of scheme 2, from an index on; i is one of them, or 0
 pub record RowRoom (first i : ℕ) (s : List ℕ) : Type 0 where
@@ -26,7 +26,6 @@ pub record GateRoom (scheme code at : ℕ) (s : List ℕ) : Type 0 where
   pub high : scheme ≤ 3
   pub room : at + charge (kindOf code) * (4 + 16 * schemeOf scheme .stored) ≤ length s
 
--- r is the token of the gate of wire number g, from the tokens A and B, and the place of the next record
-pub record OpenedIs (scheme g code : ℕ) (A B : Block) (s : List ℕ) (at : ℕ) (r : Opened) : Type 0 where
-  pub is-token : r .token .bytes ≡ openAt (schemeOf scheme) (kindOf code) g (drop at s) A B
-  pub is-next : r .next .at ≡ at + charge (kindOf code) * (4 + 16 * schemeOf scheme .stored)
+-- r is the token of a gate that is not charged, from the tokens A and B: by every scheme, on every wire and over every material
+pub record OpenedFree (code : ℕ) (A B r : Block) : Type 0 where
+  pub is-token : (S : Scheme) (g : ℕ) (bs : List ℕ) → r ≡ openAt S (kindOf code) g bs A B

@@ -14,6 +14,7 @@ use Rattle.model.specs.Bytes.{tabulate, over}
 use Rattle.model.specs.Circuit.{circuitOf, inputs, outputs, gates, markAt, recordAt, gateAt, charges, sizesHold}
 use Rattle.aes.specs.Tables.{IsTTables}
 use Rattle.model.specs.Aes.{keyExpansion, fixedKey}
+use Rattle.model.specs.Garbling.{schemeOf}
 use Rattle.model.specs.Refusals.{fine, firstOf, headVerdict, gatesVerdict, rowStart, rowVerdict}
 use Rattle.model.specs.Operations.{sizesOf, evaluatedOf, evaluateVerdict, EvaluateIs}
 use Rattle.material.specs.declared.records.Cursor.{Cursor}
@@ -44,6 +45,11 @@ pub record Ended (a : Evaluated) (w : Walk) : Type 0 where
 pub record Begun (n m q : ℕ) (w : Walk) : Type 0 where
   pub goes : (leb q 65535 && sizesHold n m q) ≡ true → GoesTo 0 0 (record { n = n; m = m; q = q; p = 0 }) (record { at = 9 }) w
   pub stops : (leb q 65535 && sizesHold n m q) ≡ false → Ended (Evaluated.Refused Limits) w
+
+-- the token of gate k is written: on to the next gate, or over
+pub record Onward (scheme k : ℕ) (z : Sizes) (there : Cursor) (w : Walk) : Type 0 where
+  pub goes : k + 1 < z .q → GoesTo 2 (k + 1) z there w
+  pub stops : z .q ≤ k + 1 → Ended (Evaluated.Done (z .p * schemeOf scheme .evaluateCalls)) w
 
 -- g is gate k of the circuit, and its record has its mark
 pub record GateIs (c : List ℕ) (k : ℕ) (g : Gate) : Type 0 where

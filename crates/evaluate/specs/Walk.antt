@@ -14,19 +14,27 @@ use Rattle.model.specs.Evaluation.{cut, openAt, run, tokenAt}
 use Rattle.model.specs.Refusals.{fine, circuitVerdict}
 use Rattle.evaluate.specs.Gate.{GateRoom}
 
--- gate g is the next, k gates after n inputs, its record at an index if it is charged; d is the buffer of the tokens
-pub record TokenStart (scheme n k : ℕ) (g : Gate) (s : List ℕ) (at : ℕ) (d : List ℕ) : Type 0 where
+-- gate g is the next, k gates after n inputs, and its operands stand before it; d is the buffer of the tokens
+pub record Operands (n k : ℕ) (g : Gate) (d : List ℕ) : Type 0 where
   pub few : n + k < 65535
   pub a-low : 1 ≤ g .a
   pub order : g .a < g .b
   pub b-high : g .b < gateWire n k
-  pub record-room : GateRoom scheme (g .code) at s
   pub token-room : 16 * (n + k) + 16 ≤ length d
+
+-- and its record is at an index of the material s if it is charged
+pub record TokenStart (scheme n k : ℕ) (g : Gate) (s : List ℕ) (at : ℕ) (d : List ℕ) : Type 0 where
+  pub operands : Operands n k g d
+  pub record-room : GateRoom scheme (g .code) at s
 
 -- its token, made from those of its operands in the buffer, which is d at entry and d′ at exit
 pub record TokenIs (scheme n k : ℕ) (g : Gate) (s : List ℕ) (at : ℕ) (d : List ℕ) (next : ℕ) (d′ : List ℕ) : Type 0 where
   pub token-left : d′ ≡ put d (16 * (n + k)) (openAt (schemeOf scheme) (kindOf (g .code)) (gateWire n k) (drop at s) (tokenAt d (g .a)) (tokenAt d (g .b)))
   pub is-next : next ≡ at + charge (kindOf (g .code)) * (4 + 16 * schemeOf scheme .stored)
+
+-- that of a gate that is not charged, by every scheme and over every material: the next record is still at its index
+pub record FreeTokenIs (n k : ℕ) (g : Gate) (d d′ : List ℕ) : Type 0 where
+  pub left : (scheme : ℕ) (s : List ℕ) (at : ℕ) → TokenIs scheme n k g s at d at d′
 
 -- the same of gate k of an accepted circuit
 pub record StepStart (scheme : ℕ) (c : List ℕ) (n k : ℕ) (s : List ℕ) (at : ℕ) (d : List ℕ) : Type 0 where

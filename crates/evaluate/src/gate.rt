@@ -5,26 +5,19 @@ ghost use mathlib.Core.List.{_∷_};
 ghost use lib.ListN.{getD, drop};
 ghost use Rattle.aes.specs.Tables.{IsTTables};
 ghost use Rattle.model.specs.Aes.{keyExpansion, fixedKey, block};
+ghost use Rattle.model.specs.Circuit.{kindOf, charge};
 ghost use Rattle.model.specs.Garbling.{schemeOf};
 ghost use Rattle.model.specs.Evaluation.{cut};
-ghost use Rattle.evaluate.specs.Gate.{RowRoom, RecordRoom, GateRoom, OpenedIs};
+ghost use Rattle.evaluate.specs.Gate.{RowRoom, RecordRoom, OpenedFree};
 use block::Block;
 use block::load;
 use circuit::code::code_kind;
-use material::records::Cursor;
-use material::rows_stored;
 use model::Kind;
 use model::Wire;
 use scheme::free_token;
 use scheme::open_half;
 use scheme::open_row;
 use scheme::row_index;
-
-// A gate's token, and where the next row record of the material stands.
-pub struct Opened {
-    pub token: Block,
-    pub next: Cursor,
-}
 
 // Row i of scheme 2, whose rows 1 to 3 start at an index: row 0 is not stored, and block 0 is taken for it.
 fn reduced_row(material: &[u8], first: usize, i: usize) -> Block
@@ -39,7 +32,7 @@ fn reduced_row(material: &[u8], first: usize, i: usize) -> Block
 }
 
 // The token of charged gate g, whose record stands at an index. Schemes 1 and 2 load the one row that the colours point at.
-fn open_charged(
+pub fn open_charged(
     t: &[u32; 1024],
     w: &[u8; 176],
     scheme: u8,
@@ -70,37 +63,14 @@ fn open_charged(
     }
 }
 
-// The token of gate g of a code, from the tokens a and b. The next row record of the material stands here: it is the gate's own
-// if the gate is charged, and a free gate has none.
-pub fn open_gate(
-    t: &[u32; 1024],
-    w: &[u8; 176],
-    scheme: u8,
-    g: Wire,
-    code: u8,
-    a: Block,
-    b: Block,
-    material: &[u8],
-    here: Cursor,
-) -> Opened
-    requires { ⌜ IsTTables (now t) ⌝ }
-    requires { ⌜ now w ≡ keyExpansion fixedKey ⌝ }
-    requires { ⌜ GateRoom scheme code (here .at) (now material) ⌝ }
-    ensures { λ r. ⌜ OpenedIs scheme (g .0) code (a .bytes) (b .bytes) (now (material .entry)) (here .at) r ⌝ }
+// The token of a gate that is not charged, from the tokens a and b: it has no record. An accepted circuit has no refused one.
+pub fn open_free(code: u8, a: Block, b: Block) -> Block
+    requires { ⌜ charge (kindOf code) ≡ 0 ⌝ }
+    ensures { λ r. ⌜ OpenedFree code (a .bytes) (b .bytes) (r .bytes) ⌝ }
 {
     match code_kind(code) {
-        Kind::Charged(_, _, _) => {
-            let token = open_charged(t, w, scheme, g, a, b, material, here.at);
-            let next = here.past(rows_stored(scheme));
-            Opened { token, next }
-        }
-        Kind::Free { p, q, c: _ } => {
-            let token = free_token(p, q, a, b);
-            Opened { token, next: here }
-        }
-        Kind::Refused => Opened {
-            token: Block::of_number(0),
-            next: here,
-        },
+        Kind::Charged(_, _, _) => Block::of_number(0),
+        Kind::Free { p, q, c: _ } => free_token(p, q, a, b),
+        Kind::Refused => Block::of_number(0),
     }
 }

@@ -9,9 +9,10 @@ ghost use lib.ListN.{getD};
 ghost use Rattle.model.specs.Circuit.{kindOf, charge};
 ghost use Rattle.model.specs.Material.{rowsStored};
 ghost use Rattle.model.specs.Operations.{evaluatedOf, EvaluateGatesIs};
-ghost use Rattle.evaluate.specs.GateList.{Lent, Ended, GoesTo, Begun, Few, Checks, Writes, TriedLeads, TryLeads, CheckedLeads, CheckLeads, WriteLeads};
+ghost use Rattle.evaluate.specs.GateList.{Lent, Ended, GoesTo, Begun, Onward, Few, Checks, Writes, TriedLeads, TryLeads, CheckedLeads, CheckLeads, WriteLeads};
 use crate::walk::calls_made;
-use crate::walk::write_token;
+use crate::walk::write_charged;
+use crate::walk::write_free;
 use aes::fixed_schedule;
 use aes::t_tables;
 use buffer::copy_front;
@@ -176,7 +177,19 @@ pub fn check_record(s: Walk, g: Gate, tokens: &[u8], material: &[u8], wires: &mu
     record_checked(k, z, there, tokens, material, wires)
 }
 
-// Pass 2 at gate g: its token. After the last the calls of π are the answer.
+// The token of gate k is written. After the last the calls of π are the answer.
+fn token_written(scheme: u8, k: usize, z: Sizes, there: Cursor) -> Walk
+    requires { ⌜ Few k z (z .q) ⌝ }
+    ensures { λ r. ⌜ Onward scheme k z there r ⌝ }
+{
+    let next = k + 1;
+    if next < z.q {
+        return go_to(2, next, z, there);
+    }
+    ended(k, z, there, Evaluated::Done(calls_made(scheme, z.p)))
+}
+
+// Pass 2 at gate g: its token.
 pub fn write_next(
     t: &[u32; 1024],
     w: &[u8; 176],
@@ -191,12 +204,12 @@ pub fn write_next(
     let k = s.k;
     let z = s.z;
     let scheme = material[2];
-    let there = write_token(t, w, scheme, z.n, k, g, material, s.here, wires);
-    let next = k + 1;
-    if next < z.q {
-        return go_to(2, next, z, there);
+    if code_charge(g.code) == 0 {
+        write_free(z.n, k, g, wires);
+        return token_written(scheme, k, z, s.here);
     }
-    ended(k, z, there, Evaluated::Done(calls_made(scheme, z.p)))
+    write_charged(t, w, scheme, z.n, k, g, material, s.here, wires);
+    token_written(scheme, k, z, s.here.past(rows_stored(scheme)))
 }
 
 // The answer at the end of the walk.

@@ -1,29 +1,46 @@
 // The walk over the gates (01, Operations, evaluate): the tokens of all wires, in the buffer that they are read from.
 // Whatever enciphers is lent the T-tables t and the schedule w of π's fixed key.
 ghost use mathlib.Core.Path.{_≡_};
-ghost use Prim.Native.Nat.{_*_, _≤_};
+ghost use Prim.Native.Nat.{_+_, _*_, _≤_};
 ghost use Rattle.model.specs.Bytes.{over};
 ghost use Rattle.aes.specs.Tables.{IsTTables};
 ghost use Rattle.model.specs.Aes.{keyExpansion, fixedKey};
-ghost use Rattle.model.specs.Circuit.{circuitOf, gateAt};
+ghost use Rattle.model.specs.Circuit.{circuitOf, gateAt, kindOf, charge};
 ghost use Rattle.model.specs.Garbling.{schemeOf};
 ghost use Rattle.model.specs.Material.{joinBlocks};
 ghost use Rattle.model.specs.Evaluation.{cut, evaluate, evaluateBytes};
-ghost use Rattle.evaluate.specs.Walk.{TokenStart, TokenIs, StepStart, WalkStart, WiresStart};
-use crate::gate::open_gate;
+ghost use Rattle.evaluate.specs.Gate.{RecordRoom};
+ghost use Rattle.evaluate.specs.Walk.{Operands, FreeTokenIs, TokenIs, StepStart, WalkStart, WiresStart};
+use crate::gate::open_charged;
+use crate::gate::open_free;
 use aes::fixed_schedule;
 use aes::t_tables;
 use block::load;
 use block::store;
 use buffer::copy_front;
+use circuit::code::code_charge;
 use circuit::gates::gate_at;
 use material::records::Cursor;
+use material::rows_stored;
 use model::Gate;
 use model::Wire;
 
-// Gate k, from 0, of a circuit of n inputs is g: its token is written after those of the wires before it. The next row record
-// stands here, and after this gate where the result says.
-pub fn write_token(
+// Gate k, from 0, of a circuit of n inputs is g, and is not charged: its token, which needs no material, is written after those of the
+// wires before it.
+pub fn write_free(n: usize, k: usize, g: Gate, wires: &mut [u8])
+    requires { ⌜ Operands n k g (now wires) ⌝ }
+    requires { ⌜ charge (kindOf (g .code)) ≡ 0 ⌝ }
+    ensures { λ _. ⌜ FreeTokenIs n k g (now (wires .entry)) (now (wires .exit)) ⌝ }
+{
+    let place = 16 * (n + k);
+    let a = load(wires, 16 * (g.a as usize - 1));
+    let b = load(wires, 16 * (g.b as usize - 1));
+    let token = open_free(g.code, a, b);
+    store(wires, place, token);
+}
+
+// The same of a charged gate, whose row record stands here.
+pub fn write_charged(
     t: &[u32; 1024],
     w: &[u8; 176],
     scheme: u8,
@@ -33,22 +50,23 @@ pub fn write_token(
     material: &[u8],
     here: Cursor,
     wires: &mut [u8],
-) -> Cursor
+)
     requires { ⌜ IsTTables (now t) ⌝ }
     requires { ⌜ now w ≡ keyExpansion fixedKey ⌝ }
-    requires { ⌜ TokenStart scheme n k g (now material) (here .at) (now wires) ⌝ }
-    ensures { λ next. ⌜ TokenIs scheme n k g (now (material .entry)) (here .at) (now (wires .entry)) (next .at) (now (wires .exit)) ⌝ }
+    requires { ⌜ Operands n k g (now wires) ⌝ }
+    requires { ⌜ RecordRoom scheme (here .at) (now material) ⌝ }
+    requires { ⌜ charge (kindOf (g .code)) ≡ 1 ⌝ }
+    ensures { λ _. ⌜ TokenIs scheme n k g (now (material .entry)) (here .at) (now (wires .entry)) (here .at + (4 + 16 * schemeOf scheme .stored)) (now (wires .exit)) ⌝ }
 {
     let place = 16 * (n + k);
     let own = Wire((n + k + 1) as u16);
     let a = load(wires, 16 * (g.a as usize - 1));
     let b = load(wires, 16 * (g.b as usize - 1));
-    let x = open_gate(t, w, scheme, own, g.code, a, b, material, here);
-    store(wires, place, x.token);
-    x.next
+    let token = open_charged(t, w, scheme, own, a, b, material, here.at);
+    store(wires, place, token);
 }
 
-// The same of gate k as the circuit's bytes have it.
+// The token of gate k as the circuit's bytes have it. The next row record stands here, and after this gate where the result says.
 fn write_token_at(
     t: &[u32; 1024],
     w: &[u8; 176],
@@ -66,7 +84,12 @@ fn write_token_at(
     ensures { λ next. ⌜ TokenIs scheme n k (gateAt (now (circuit .entry)) k) (now (material .entry)) (here .at) (now (wires .entry)) (next .at) (now (wires .exit)) ⌝ }
 {
     let g = gate_at(circuit, k);
-    write_token(t, w, scheme, n, k, g, material, here, wires)
+    if code_charge(g.code) == 0 {
+        write_free(n, k, g, wires);
+        return here;
+    }
+    write_charged(t, w, scheme, n, k, g, material, here, wires);
+    here.past(rows_stored(scheme))
 }
 
 // The tokens of the gates, written after the inputs' tokens, which stand at the front of the buffer.
