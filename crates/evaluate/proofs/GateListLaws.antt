@@ -1,13 +1,13 @@
 -- Evaluation over a list of gate records: a law for each return of the functions of src/list.rt. Assumes nothing.
-use Prim.Native.Nat.{ℕ, suc, _+_, _*_, _≤_, _<_}
+use Prim.Native.Nat.{ℕ, zero, suc, _+_, _*_, _≤_, _<_, _^_}
 use native.Mathlib.Numerals.{add-one}
 use native.Mathlib.Decide.{decLt}
 use native.Mathlib.Omega.{arith}
 use mathlib.Core.Path.{_≡_, refl, sym, ap, _∙_}
 use mathlib.Core.Bool.{Bool, true, false, not, _&&_}
 use mathlib.Core.List.{List}
-use borrow.Author.Tests.{le-leb, lt-leb, lt-ltb, le-ltb, eq-eqb, ne-eqb, not-true, not-false}
-use lib.Dec.{leb}
+use borrow.Author.Tests.{le-leb, lt-leb, lt-ltb, le-ltb, eq-eqb, eqb-true, ne-eqb, not-true, not-false}
+use lib.Dec.{leb, eqb}
 use lib.ListN.{length, getD}
 use mir.Syntax.{w64}
 use mir.Val.{Fits}
@@ -18,32 +18,36 @@ use Rattle.model.specs.declared.Refusal.{Refusal}
 use Rattle.model.specs.declared.Refusal.the-variants.{Limits, TokensLength, RowRecord, Room}
 use Rattle.model.specs.declared.Ran.{Ran}
 use Rattle.model.specs.declared.Evaluated.{Evaluated}
-use Rattle.model.specs.Bytes.{over}
-use Rattle.model.specs.Circuit.{circuitOf, inputs, gates, gateAt, kindOf, charge, sizesHold}
+use Rattle.model.specs.Bytes.{be16, over}
+use Rattle.model.specs.Circuit.{circuitOf, inputs, gates, gateAt, markAt, kindOf, charge, sizesHold}
 use Rattle.aes.specs.Tables.{IsTTables}
 use Rattle.model.specs.Aes.{keyExpansion, fixedKey}
 use Rattle.model.specs.Garbling.{schemeOf}
 use Rattle.model.specs.Material.{rowsStored}
-use Rattle.model.specs.Refusals.{fine, refused, refuse, _then_, firstOf, numberOf, placeOf, verdictOf, headVerdict, gateVerdict, recordVerdict, gatesVerdict, circuitVerdict, tokensVerdict, materialVerdict, roomVerdict, rowStart, rowRecordAt, rowVerdict}
-use Rattle.model.specs.Operations.{answer, sizesOf, ranOf, evaluatedOf, evaluateVerdict, EvaluateIs}
+use Rattle.model.specs.Refusals.{fine, refused, refuse, _then_, firstOf, numberOf, placeOf, verdictOf, headVerdict, gateVerdict, recordVerdict, gatesVerdict, circuitVerdict, tokensVerdict, fileVerdict, materialVerdict, roomVerdict, rowRecordAt}
+use Rattle.model.specs.Operations.{sizesOf, ranOf, evaluatedOf, evaluateVerdict, EvaluateIs}
 use Rattle.model.proofs.Lists.{tabulate-snoc}
 use Rattle.model.proofs.Circuits.{charge-le, charges-snoc}
-use Rattle.model.proofs.Verdicts.{then-fine, Given, yes-given, Turned, no-turned, first-next, first-found}
+use Rattle.model.proofs.Verdicts.{then-fine, refuse-fine, and-both, Given, yes-given, Turned, no-turned, first-next, first-found}
 use Rattle.circuit.specs.declared.gates.GateRead.{GateRead}
 use Rattle.circuit.specs.declared.values.Ready.{Ready}
-use Rattle.circuit.specs.Answers.{gateOf, gateAnswer}
+use Rattle.circuit.specs.Answers as Read
+use Rattle.circuit.specs.Answers.{gateOf}
 use Rattle.material.specs.declared.records.Cursor.{Cursor}
 use Rattle.material.specs.declared.records.Step.{Step}
-use Rattle.material.specs.Answers.{Accepted, sizesVerdict, stepOf, passAnswer, lastAt}
+use Rattle.material.specs.declared.reader.Standing.{Standing}
+use Rattle.material.specs.Reader.{standingAt}
+use Rattle.material.specs.Answers.{Accepted, Filed, sizesVerdict, stepOf, passAnswer, gateAnswer, recordsVerdict, lastAt}
 use Rattle.material.proofs.SizeLaws.{limits, is-n, is-m, is-q}
-use Rattle.material.proofs.RowLaws.{row-first}
+use Rattle.material.proofs.RowLaws.{row-first, row-room, FileHolds, file-holds}
+use Rattle.material.proofs.ReaderLaws.{bytes-counted, scheme-inside, past-fits, row-record}
 use Rattle.material.proofs.RecordLaws.{Reading, at-turn, gate-passed, turn-next, turn-fault, one-charged, answer-free, answer-wrong, answer-right}
 use Rattle.material.proofs.MaterialLaws.{by-record, by-last, material-file, filed}
 use Rattle.evaluate.specs.declared.list.Walk.{Walk}
 use Rattle.evaluate.specs.Answers.{restVerdict}
 use Rattle.evaluate.specs.Gate.{RecordRoom}
 use Rattle.evaluate.specs.Walk.{TokenStart, TokenIs, FreeTokenIs, WiresStart, Walking}
-use Rattle.evaluate.specs.GateList.{Ended, GoesTo, Begun, Onward, GateIs, Tried, Checked, Written, Stands, TriedLeads, TryLeads, CheckedLeads, CheckLeads, WriteLeads, Few, Checks, Writes}
+use Rattle.evaluate.specs.GateList.{Ended, GoesTo, Begun, Onward, GateIs, RowsRight, Guessed, Tried, Checked, Written, Stands, TriedLeads, TryLeads, CheckedLeads, CheckLeads, WriteLeads, Few, RowPassed, Checks, Writes}
 use Rattle.evaluate.proofs.ReadyLaws.{evaluate-verdict}
 use Rattle.evaluate.proofs.WalkLaws.{past-is, charged-room, charge-cases, walk-start, walk-turn, walk-end, wires-walk, wires-done}
 use Rattle.evaluate.proofs.EvaluateLaws.{evaluate-start, evaluate-done}
@@ -94,11 +98,11 @@ module _ (c ts s o : List ℕ) (left : ℕ) (w : Walk) (d : List ℕ) where
 
   -- it goes on, in one of the passes
   module _ (k : ℕ) (z : Sizes) (here : Cursor) (more : k < gates c) where
-    pub goes-0 : GoesTo 0 k z here w → Tried c o left k z d → Stands c ts s o left w d
+    pub goes-0 : GoesTo 0 k z here w → Tried c s o left k z (here .at) d → Stands c ts s o left w d
     goes-0 g t = record {
       passes = omega (arith, g .is-pass);
       more = λ _. rw (g .is-k) more;
-      pass-0 = λ _. rw (g .is-k, g .is-z) t;
+      pass-0 = λ _. rw (g .is-k, g .is-z, g .is-here) t;
       pass-1 = λ e. absurd (omega (arith, g .is-pass));
       pass-2 = λ e. absurd (omega (arith, g .is-pass));
       ended = λ e. absurd (omega (arith, g .is-pass));
@@ -164,65 +168,184 @@ module _ (c ts s o : List ℕ) (z : Sizes) where
   wires known v =
       rw (is-n c z known, is-q c z known) at (evaluate-start c ts s o (Ready.Go z) (rw (v, ← known .sizes)) z refl)
 
+-- ---- the row record of gate k at its turn, the answer to it given as `pass_gate` gives it
+module _ (c : List ℕ) (z : Sizes) (s : List ℕ) (known : Filed c z s) (k : ℕ) (h : k < gates c) (g : Gate) (is-g : g ≡ gateAt c k) (here : Cursor)
+    (rows : RowsRight c s k (here .at)) (u : Step) (is-u : stepOf u ≡ passAnswer s (here .at) (rowsStored (getD s 2 0)) (g .code) (z .n + k + 1)) where
+  more : k < z .q
+  more = omega (arith, is-q c z (known .circuit))
+
+  reading : Reading c s (z .q) k here
+  reading = record { within = omega (arith, more); no-fault = rows .no-fault; placed = rows .placed }
+
+  at-gate : stepOf u ≡ gateAnswer c s k
+  at-gate =
+      gate-passed c z s (rowsStored (getD s 2 0)) k (here .at) (at-turn c z s known k here reading more (rowsStored (getD s 2 0)) refl) g is-g u is-u
+
+  row-past : (there : Cursor) → u ≡ Step.Next there → RowsRight c s (k + 1) (there .at)
+  row-past there e =
+      let next = turn-next c z s known k here reading more u at-gate there e in
+      record { no-fault = next .no-fault; placed = next .placed }
+
+  row-fault : (f : Refusal) → u ≡ Step.Fault f → verdictOf f ≡ recordsVerdict c s
+  row-fault f e = turn-fault c z s known k here reading more u at-gate f e
+
+-- ---- row_passed: what the reader found, and the rows as they were counted
+
+pub look-fits : (s : List ℕ) (at : ℕ) (t : Standing) → t ≡ standingAt s at → (w : Wire) → t ≡ Standing.Gate w → (rows : ℕ) → rows ≡ rowsStored (getD s 2 0)
+    → length s < 2 ^ 64 → at + 4 + 16 * rows < 18446744073709551616
+look-fits s at t is-t w e rows is-rows h =
+    let fits : Fits w64 (at + (4 + 16 * rows)) = past-fits s at t is-t w e (4 + 16 * rows) (bytes-counted s rows is-rows) h in omega arith
+
+module _ (s : List ℕ) (at x due : ℕ) where
+  pub passed-free : x ≡ 0 → RowPassed s at x due at
+  passed-free e = record { free = λ _. refl; found = λ n. absurd (n e); gone = λ n. absurd (n e) }
+
+  module _ (n : x ≡ 0 → ⊥) where
+    pub passed-not : RowPassed s at x due 0
+    passed-not = record { free = λ e. absurd (n e); found = λ _ z. absurd (z refl); gone = λ _ z. absurd (z refl) }
+
+    pub passed-right : (t : Standing) → t ≡ standingAt s at → (w : Wire) → t ≡ Standing.Gate w → (rows : ℕ) → rows ≡ rowsStored (getD s 2 0) → w .0 ≡ due
+        → (there : ℕ) → there ≡ at + 4 + 16 * rows → RowPassed s at x due there
+    passed-right t is-t w e rows is-rows i there is-there =
+        let own : w ≡ record { 0 = due } = ap (λ (y : ℕ). record { 0 = y }) i in
+        record { free = λ f. absurd (n f); found = λ _ _. sym is-t ∙ e ∙ ap Standing.Gate own; gone = λ _ _. rw (← is-rows) is-there }
+
+pub ruleset passed-asks = (scheme-inside, look-fits)
+
+pub ruleset passed-cases = (passed-free, passed-not, passed-right)
+
+-- ---- where the next row record is, if those of k gates and of the gate after them are right
+
+-- the header has another mark than a row record
+header-mark : (c s : List ℕ) → fileVerdict (circuitOf c) s ≡ fine → markAt s 0 0x47 0x48 ≡ true
+unfolding fileVerdict
+header-mark c s e =
+    let a = then-fine _ _ e in
+    let b = then-fine _ _ (a .0) in
+    let d = then-fine _ _ (b .0) in
+    let f = then-fine _ _ (d .0) in
+    not-false _ (refuse-fine _ _ _ (f .1))
+
+no-row : (s : List ℕ) (due : ℕ) → markAt s 0 0x47 0x48 ≡ true → rowRecordAt s 0 due ≡ true → ⊥
+unfolding rowRecordAt markAt
+no-row s due a b =
+    let x = eqb-true (getD s 1 0) 0x48 (and-both (eqb (getD s 0 0) 0x47) (eqb (getD s 1 0) 0x48) a .1) in
+    let mark = and-both (eqb (getD s 0 0) 0x47 && eqb (getD s 1 0) 0x54) (eqb (be16 s 2) due) b .0 in
+    let y = eqb-true (getD s 1 0) 0x54 (and-both (eqb (getD s 0 0) 0x47) (eqb (getD s 1 0) 0x54) mark .1) in
+    omega arith
+
+-- a row record that a reader found at an index
+is-there : (s : List ℕ) (at due : ℕ) → at + 4 ≤ length s → standingAt s at ≡ Standing.Gate (record { 0 = due }) → rowRecordAt s at due ≡ true
+is-there s at due h e = sym (rw e at (row-record s at due h)) ∙ eq-eqb due due refl
+
+module _ (c s : List ℕ) (k : ℕ) (h : k < gates c) (g : Gate) (is-g : g ≡ gateAt c k) (here : Cursor) (before : Guessed c s k (here .at)) where
+  guess-free : charge (kindOf (g .code)) ≡ 0 → Guessed c s (k + 1) (here .at)
+  guess-free e = record {
+    rows = λ n known.
+        row-past c (sizesOf c) s known k h g is-g here (before .rows n known) (Step.Next here)
+        (answer-free s (here .at) (rowsStored (getD s 2 0)) (g .code) (sizesOf c .n + k + 1) e) here refl;
+  }
+
+  module _ (charged : charge (kindOf (g .code)) ≡ 0 → ⊥) (due : ℕ) (is-due : due ≡ inputs c + k + 1) (there : Cursor)
+      (found : (there .at ≡ 0 → ⊥) → standingAt s (here .at) ≡ Standing.Gate (record { 0 = due }))
+      (gone : (there .at ≡ 0 → ⊥) → there .at ≡ here .at + 4 + 16 * rowsStored (getD s 2 0)) where
+    module _ (n : there .at ≡ 0 → ⊥) (known : Filed c (sizesOf c) s) where
+      file : FileHolds c s
+      file = file-holds c s (known .filed)
+
+      -- it was right so far
+      some : here .at ≡ 0 → ⊥
+      some z =
+          let e : standingAt s 0 ≡ Standing.Gate (record { 0 = due }) = rw z at (found n) in
+          no-row s due (header-mark c s (known .filed)) (is-there s 0 due (omega (arith, file .header)) e)
+
+      so-far : RowsRight c s k (here .at)
+      so-far = before .rows some known
+
+      within : here .at + 4 ≤ length s
+      within =
+          let room = row-room c s (file .whole) k h in
+          omega (arith, rw (← is-g, one-charged (kindOf (g .code)) charged .1, ← so-far .placed) at room)
+
+      right : rowRecordAt s (here .at) (sizesOf c .n + k + 1) ≡ true
+      right = rw (is-n c (sizesOf c) (known .circuit), ← is-due) (is-there s (here .at) due within (found n))
+
+      gone-past : RowsRight c s (k + 1) (there .at)
+      gone-past =
+          row-past c (sizesOf c) s known k h g is-g here so-far (Step.Next there)
+          (answer-right s (here .at) (rowsStored (getD s 2 0)) (g .code) (sizesOf c .n + k + 1) charged right (there .at) (gone n)) there refl
+
+    guess-charged : Guessed c s (k + 1) (there .at)
+    guess-charged = record { rows = λ n known. gone-past n known }
+
 -- ---- gate_tried
 
 sizes-are : (z : Sizes) (a b e f : ℕ) → z .n ≡ a → z .m ≡ b → z .q ≡ e → z .p ≡ f → z ≡ record { n = a; m = b; q = e; p = f }
 sizes-are z a b e f i j k l = rw (← i, ← j, ← k, ← l)
 
 -- all gates were tried: the circuit is accepted
-all-tried : (c o d : List ℕ) (left k : ℕ) (z : Sizes) → Tried c o left k z d → z .q ≤ k → Accepted c z
+all-tried : (c s o d : List ℕ) (left k : ℕ) (z : Sizes) (at : ℕ) → Tried c s o left k z at d → z .q ≤ k → Accepted c z
 unfolding circuitVerdict _then_ sizesOf circuitOf
-all-tried c o d left k z t h =
+all-tried c s o d left k z at t h =
     let e : k ≡ gates c = omega (arith, t .within, t .is-q) in
     record {
       accepted = rw (t .head) (rw e at (t .no-fault));
       sizes = sizes-are z _ _ _ _ (t .is-n) (t .is-m) (t .is-q) (rw e at (t .counted));
     }
 
-module _ (ts s : List ℕ) (k : ℕ) (z : Sizes) (r : Walk) where
-  pub tried-next : k + 1 < z .q → (here : Cursor) → GoesTo 0 (k + 1) z here r → TriedLeads ts s k z r
-  tried-next h here g = record { leads = λ c o d left t. goes-0 c ts s o left r d (k + 1) z here (omega (arith, t .is-q)) g t }
+module _ (ts s : List ℕ) (k : ℕ) (z : Sizes) (here there : Cursor) (r : Walk) where
+  pub tried-next : k + 1 < z .q → GoesTo 0 (k + 1) z there r → TriedLeads ts s k z (here .at) (there .at) r
+  tried-next h g = record { leads = λ c o d left _ t. goes-0 c ts s o left r d (k + 1) z there (omega (arith, t .is-q)) g t }
 
   module _ (last : z .q ≤ k + 1) where
-    pub tried-tokens : (length ts ≡ 16 * z .n → ⊥) → Ended (Evaluated.Refused (TokensLength (length ts))) r → TriedLeads ts s k z r
+    pub tried-tokens : (length ts ≡ 16 * z .n → ⊥) → Ended (Evaluated.Refused (TokensLength (length ts))) r → TriedLeads ts s k z (here .at) (there .at) r
     tried-tokens h e = record {
-      leads = λ c o d left t.
-          let known = all-tried c o d left (k + 1) z t last in
+      leads = λ c o d left _ t.
+          let known = all-tried c s o d left (k + 1) z (there .at) t last in
           refuses c ts s o left r d (TokensLength (length ts)) e (t .untouched)
           (verdict-tokens c ts s (length o) (known .accepted) (rw (t .is-n) at h));
     }
 
     -- the header and the length of the material as they were tried
     module _ (l : length ts ≡ 16 * z .n) (u : Ran) (is-u : ranOf u ≡ sizesVerdict z s) where
-      pub tried-file : (f : Refusal) → u ≡ Ran.Refused f → Ended (Evaluated.Refused f) r → TriedLeads ts s k z r
+      pub tried-file : (f : Refusal) → u ≡ Ran.Refused f → Ended (Evaluated.Refused f) r → TriedLeads ts s k z (here .at) (there .at) r
       tried-file f i e = record {
-        leads = λ c o d left t.
-            let known = all-tried c o d left (k + 1) z t last in
+        leads = λ c o d left _ t.
+            let known = all-tried c s o d left (k + 1) z (there .at) t last in
             refuses c ts s o left r d f e (t .untouched)
             (verdict-material c ts s (length o) (known .accepted) (rw (t .is-n) at l) f (material-file c z s known u is-u f i));
       }
 
-      pub tried-all : u ≡ Ran.Done → (here : Cursor) → here .at ≡ 9 → GoesTo 1 0 z here r → TriedLeads ts s k z r
-      tried-all i here at g = record {
-        leads = λ c o d left t.
-            let known = all-tried c o d left (k + 1) z t last in
-            let sizes = limits c z known .sizes in
-            goes-1 c ts s o left r d 0 z here (omega (arith, sizes .m-low, sizes .m-high)) g
-            (record {
-              known = filed c z s known u is-u i;
-              tokens = rw (t .is-n) at l;
-              within = omega arith;
-              no-fault = unfold firstOf in refl;
-              placed = at ∙ sym (row-first c s);
-              untouched = t .untouched;
-              turns = omega (arith, t .turns, t .is-q, t .within, last);
-            });
-      }
+      module _ (i : u ≡ Ran.Done) where
+        -- to a gate whose row record is due at an index, those before it right
+        to-record : (j : ℕ) (at : Cursor) → GoesTo 1 j z at r → j ≤ k → ((c : List ℕ) → Guessed c s k (here .at) → Filed c z s → RowsRight c s j (at .at))
+            → TriedLeads ts s k z (here .at) (there .at) r
+        to-record j at g low right = record {
+          leads = λ c o d left before t.
+              let known = filed c z s (all-tried c s o d left (k + 1) z (there .at) t last) u is-u i in
+              goes-1 c ts s o left r d j z at (omega (arith, t .within)) g
+              (record {
+                known = known;
+                tokens = rw (t .is-n) at l;
+                within = omega (arith, t .within);
+                rows = right c before known;
+                untouched = t .untouched;
+                turns = omega (arith, t .turns, t .is-q, t .within, last);
+              });
+        }
 
-pub ruleset tried-cases = (tried-next, tried-tokens, tried-file, tried-all)
+        -- the first, or the last
+        pub tried-first : (first : Cursor) → first .at ≡ 9 → GoesTo 1 0 z first r → TriedLeads ts s k z (here .at) (there .at) r
+        tried-first first at g =
+            to-record 0 first g (omega arith) (λ c _ _. (record { no-fault = unfold firstOf in refl; placed = at ∙ sym (row-first c s) }))
+
+        pub tried-last : (here .at ≡ 0 → ⊥) → GoesTo 1 k z here r → TriedLeads ts s k z (here .at) (there .at) r
+        tried-last n g = to-record k here g (omega arith) (λ c before known. before .rows n (rw (known .circuit .sizes) at known))
+
+pub ruleset tried-cases = (tried-next, tried-tokens, tried-file, tried-first, tried-last)
 
 -- ---- try_gate: what was found at the gate
-module _ (ts s : List ℕ) (w : Walk) (g : Gate) (found : GateRead) (is-found : gateOf found ≡ gateAnswer (w .z .n + w .k + 1) g) where
+module _ (ts s : List ℕ) (w : Walk) (g : Gate) (found : GateRead) (is-found : gateOf found ≡ Read.gateAnswer (w .z .n + w .k + 1) g) where
   -- its verdict is that of the record
   at-record : (c : List ℕ) → GateIs c (w .k) g → w .z .n ≡ inputs c → recordVerdict c (inputs c) (w .k) ≡ gateVerdict (w .z .n + w .k + 1) g
   unfolding recordVerdict refuse _then_
@@ -250,11 +373,26 @@ module _ (ts s : List ℕ) (w : Walk) (g : Gate) (found : GateRead) (is-found : 
   }
 
   -- without a fault, it adds its charge
-  pub try-fine : (x : ℕ) → found ≡ GateRead.Fine x → (r : Walk) → TriedLeads ts s (w .k) (counted x) r → TryLeads ts s w g r
-  try-fine x e r next = record {
+  module _ (x : ℕ) (e : found ≡ GateRead.Fine x) (there : Cursor) (passed : RowPassed s (w .here .at) x (w .z .n + w .k + 1) (there .at)) where
+    guess : (c : List ℕ) → w .z .n ≡ inputs c → w .k < gates c → GateIs c (w .k) g → Guessed c s (w .k) (w .here .at) → Guessed c s (w .k + 1) (there .at)
+    guess c is-n h is before = by-charge x refl
+      where
+        is-x : x ≡ charge (kindOf (g .code))
+        is-x = fine-gate x e .is-result
+
+        by-charge : (y : ℕ) → x ≡ y → Guessed c s (w .k + 1) (there .at)
+        by-charge zero f = rw (passed .free f) (guess-free c s (w .k) h g (is .is-g) (w .here) before (sym is-x ∙ f))
+        by-charge (suc y) f =
+            let some : x ≡ 0 → ⊥ = λ z. absurd (omega arith) in
+            guess-charged c s (w .k) h g (is .is-g) (w .here) before (λ z. some (is-x ∙ z)) (w .z .n + w .k + 1) (rw is-n) there (passed .found some)
+            (passed .gone some)
+
+  pub try-fine : (x : ℕ) → found ≡ GateRead.Fine x → (there : Cursor) → RowPassed s (w .here .at) x (w .z .n + w .k + 1) (there .at) → (r : Walk)
+      → TriedLeads ts s (w .k) (counted x) (w .here .at) (there .at) r → TryLeads ts s w g r
+  try-fine x e there passed r next = record {
     leads = λ c o d left h is t.
         let v = fine-gate x e in
-        next .leads c o d left
+        next .leads c o d left (t .guessed)
         (record {
           head = t .head;
           is-n = t .is-n;
@@ -263,6 +401,7 @@ module _ (ts s : List ℕ) (w : Walk) (g : Gate) (found : GateRead) (is-found : 
           within = omega arith;
           no-fault = first-next _ (w .k) (t .no-fault) (at-record c is (t .is-n) ∙ v .is-fine);
           counted = rw (add-one, tabulate-snoc (w .k) (gateAt c), charges-snoc, ← is .is-g, ← t .counted, ← v .is-result);
+          guessed = guess x e there passed c (t .is-n) h is (t .guessed);
           untouched = t .untouched;
           turns = omega (arith, t .turns);
         });
@@ -271,7 +410,7 @@ module _ (ts s : List ℕ) (w : Walk) (g : Gate) (found : GateRead) (is-found : 
   pub try-fault : (f : Refusal) → found ≡ GateRead.Fault f → (r : Walk) → Ended (Evaluated.Refused f) r → TryLeads ts s w g r
   try-fault f e r is-r = record { leads = λ c o d left h is t. refuses c ts s o left r d f is-r (t .untouched) (verdict c o d left h is t) }
     where
-      verdict : (c o d : List ℕ) (left : ℕ) → w .k < gates c → GateIs c (w .k) g → Tried c o (suc left) (w .k) (w .z) d
+      verdict : (c o d : List ℕ) (left : ℕ) → w .k < gates c → GateIs c (w .k) g → Tried c s o (suc left) (w .k) (w .z) (w .here .at) d
           → evaluateVerdict c ts s (length o) ≡ verdictOf f
       verdict c o d left h is t =
           let v : Turned (gateVerdict (w .z .n + w .k + 1) g) (verdictOf f) = no-turned _ _ _ (rw e at is-found) in
@@ -295,7 +434,7 @@ module _ (ts s : List ℕ) (k : ℕ) (z : Sizes) (there : Cursor) (d : List ℕ)
     all-checked : (c o : List ℕ) (left : ℕ) → Checked c ts s o left (k + 1) z (there .at) d → ranOf u ≡ materialVerdict (circuitOf c) s
     all-checked c o left t =
         let e : k + 1 ≡ gates c = omega (arith, t .within, is-q c z (t .known .circuit)) in
-        by-last c z s (t .known) (rw e at (t .no-fault)) (ranOf u) (there .at) (rw e at (t .placed)) is-u
+        by-last c z s (t .known) (rw e at (t .rows .no-fault)) (ranOf u) (there .at) (rw e at (t .rows .placed)) is-u
 
     pub checked-last : (f : Refusal) → u ≡ Ran.Refused f → Ended (Evaluated.Refused f) r → CheckedLeads ts s k z (there .at) d r d
     checked-last f i e = record {
@@ -343,35 +482,21 @@ module _ (ts s : List ℕ) (w : Walk) (g : Gate) where
     -- gate k of the circuit
     module _ (c o d : List ℕ) (left : ℕ) (h : w .k < gates c) (is : GateIs c (w .k) g)
         (t : Checked c ts s o (suc left) (w .k) (w .z) (w .here .at) d) where
-      more : w .k < w .z .q
-      more = omega (arith, is-q c (w .z) (t .known .circuit))
-
-      reading : Reading c s (w .z .q) (w .k) (w .here)
-      reading = record { within = omega (arith, more); no-fault = t .no-fault; placed = t .placed }
-
-      at-gate : stepOf u ≡ answer (rowVerdict (circuitOf c) s (w .k)) (rowStart (circuitOf c) s (w .k + 1))
-      at-gate =
-          gate-passed c (w .z) s (rowsStored (getD s 2 0)) (w .k) (w .here .at)
-          (at-turn c (w .z) s (t .known) (w .k) (w .here) reading more (rowsStored (getD s 2 0)) refl) g (is .is-g) u is-u
-
       past-gate : (there : Cursor) → u ≡ Step.Next there → Checked c ts s o left (w .k + 1) (w .z) (there .at) d
-      past-gate there e =
-          let next = turn-next c (w .z) s (t .known) (w .k) (w .here) reading more u at-gate there e in
-          record {
-            known = t .known;
-            tokens = t .tokens;
-            within = omega arith;
-            no-fault = next .no-fault;
-            placed = next .placed;
-            untouched = t .untouched;
-            turns = omega (arith, t .turns);
-          }
+      past-gate there e = record {
+        known = t .known;
+        tokens = t .tokens;
+        within = omega arith;
+        rows = row-past c (w .z) s (t .known) (w .k) h g (is .is-g) (w .here) (t .rows) u is-u there e;
+        untouched = t .untouched;
+        turns = omega (arith, t .turns);
+      }
 
       stopped : (f : Refusal) → u ≡ Step.Fault f → evaluateVerdict c ts s (length o) ≡ verdictOf f
       stopped f e =
-          let v = turn-fault c (w .z) s (t .known) (w .k) (w .here) reading more u at-gate f e in
           verdict-material c ts s (length o) (t .known .circuit .accepted) (t .tokens) f
-          (by-record c (w .z) s (t .known) (verdictOf f) v (numberOf f) (placeOf f) refl)
+          (by-record c (w .z) s (t .known) (verdictOf f) (row-fault c (w .z) s (t .known) (w .k) h g (is .is-g) (w .here) (t .rows) u is-u f e) (numberOf f)
+          (placeOf f) refl)
 
     goes-past : (there : Cursor) → u ≡ Step.Next there → (d : List ℕ) (r : Walk) (d′ : List ℕ) → CheckedLeads ts s (w .k) (w .z) (there .at) d r d′
         → CheckLeads ts s w g d r d′

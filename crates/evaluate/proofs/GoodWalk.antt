@@ -23,7 +23,7 @@ use Rattle.model.proofs.Accepted.{header-holds}
 use Rattle.model.proofs.Records.{noGate, GateFits, inputs-made, outputs-made, gates-made, head-made, gate-made, mark-made}
 use Rattle.material.specs.Answers.{Accepted}
 use Rattle.material.proofs.SizeLaws.{limits, is-n, is-m, is-q, is-p, gates-many}
-use Rattle.material.proofs.RowLaws.{row-room, file-holds}
+use Rattle.material.proofs.RowLaws.{row-first, row-room, file-holds}
 use Rattle.evaluate.specs.declared.list.Walk.{Walk}
 use Rattle.evaluate.specs.GateList.{Lent, Ended, GoesTo, Begun, GateIs, Stands, Few, Checks, Writes, TryLeads, CheckLeads, WriteLeads}
 use Rattle.evaluate.proofs.ReadyLaws.{evaluate-verdict}
@@ -76,7 +76,7 @@ module _ (c ts s o : List ℕ) (left : ℕ) (w : Walk) (d : List ℕ) (st : Stan
           few = few-accepted go known;
           tokens = rw (is-n c (w .z) known) (t .tokens);
           header = file .header;
-          room = rw (is .is-g, t .placed, is-m c (w .z) known) (row-room c s (file .whole) (w .k) (st .more go));
+          room = rw (is .is-g, t .rows .placed, is-m c (w .z) known) (row-room c s (file .whole) (w .k) (st .more go));
         }
 
     writes : w .pass ≡ 2 → (t k : List ℕ) → Lent t k → Writes t k s d w g
@@ -149,6 +149,7 @@ module _ (n m : ℕ) (gs : List Gate) (ts s o : List ℕ) where
           within = omega arith;
           no-fault = refl;
           counted = refl;
+          guessed = record { rows = λ _ _. (record { no-fault = refl; placed = sym (row-first (circuitBytes n m gs) s) }) };
           untouched = refl;
           turns = omega (arith, q-made h);
         })

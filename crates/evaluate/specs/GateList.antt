@@ -15,9 +15,12 @@ use Rattle.model.specs.Circuit.{circuitOf, inputs, outputs, gates, markAt, reco
 use Rattle.aes.specs.Tables.{IsTTables}
 use Rattle.model.specs.Aes.{keyExpansion, fixedKey}
 use Rattle.model.specs.Garbling.{schemeOf}
+use Rattle.model.specs.Material.{rowsStored}
 use Rattle.model.specs.Refusals.{fine, firstOf, headVerdict, gatesVerdict, rowStart, rowVerdict}
 use Rattle.model.specs.Operations.{sizesOf, evaluatedOf, evaluateVerdict, EvaluateIs}
 use Rattle.material.specs.declared.records.Cursor.{Cursor}
+use Rattle.material.specs.declared.reader.Standing.{Standing}
+use Rattle.material.specs.Reader.{standingAt}
 use Rattle.material.specs.Answers.{Filed}
 use Rattle.evaluate.specs.declared.list.Walk.{Walk}
 use Rattle.evaluate.specs.Walk.{TokenStart, Walking}
@@ -58,8 +61,17 @@ pub record GateIs (c : List ℕ) (k : ℕ) (g : Gate) : Type 0 where
 
 -- ---- where it stands, with so many turns left
 
--- pass 0: k gates have no fault
-pub record Tried (c o : List ℕ) (left k : ℕ) (z : Sizes) (d : List ℕ) : Type 0 where
+-- the row records of k gates are right, and the next is at an index
+pub record RowsRight (c s : List ℕ) (k at : ℕ) : Type 0 where
+  pub no-fault : firstOf (rowVerdict (circuitOf c) s) k ≡ fine
+  pub placed : at ≡ rowStart (circuitOf c) s k
+
+-- the same before anything is known of the material: if the index is not 0, and the circuit and the material's header and length turn out right
+pub record Guessed (c s : List ℕ) (k at : ℕ) : Type 0 where
+  pub rows : (at ≡ 0 → ⊥) → Filed c (sizesOf c) s → RowsRight c s k at
+
+-- pass 0: k gates have no fault, and where the next row record is, if those so far are right
+pub record Tried (c s o : List ℕ) (left k : ℕ) (z : Sizes) (at : ℕ) (d : List ℕ) : Type 0 where
   pub head : headVerdict c ≡ fine
   pub is-n : z .n ≡ inputs c
   pub is-m : z .m ≡ outputs c
@@ -67,30 +79,30 @@ pub record Tried (c o : List ℕ) (left k : ℕ) (z : Sizes) (d : List ℕ) : Ty
   pub within : k ≤ gates c
   pub no-fault : gatesVerdict c (inputs c) k ≡ fine
   pub counted : z .p ≡ charges (tabulate k (gateAt c))
+  pub guessed : Guessed c s k at
   pub untouched : d ≡ o
   pub turns : left + k ≡ 3 * gates c
 
--- pass 1: the row records of k gates are right, and the next is at an index
+-- pass 1: the row records of k gates are right. It may have started at the last gate: there are at least so many turns left, from here on
 pub record Checked (c ts s o : List ℕ) (left k : ℕ) (z : Sizes) (at : ℕ) (d : List ℕ) : Type 0 where
   pub known : Filed c z s
   pub tokens : length ts ≡ 16 * inputs c
   pub within : k ≤ gates c
-  pub no-fault : firstOf (rowVerdict (circuitOf c) s) k ≡ fine
-  pub placed : at ≡ rowStart (circuitOf c) s k
+  pub rows : RowsRight c s k at
   pub untouched : d ≡ o
-  pub turns : left + k ≡ 2 * gates c
+  pub turns : 2 * gates c ≤ left + k
 
 -- pass 2: the tokens of k gates are written
 pub record Written (c ts s o : List ℕ) (left k : ℕ) (z : Sizes) (at : ℕ) (d : List ℕ) : Type 0 where
   pub sizes : z ≡ sizesOf c
   pub fit : evaluateVerdict c ts s (length o) ≡ fine
   pub so-far : Walking c s (inputs c) (gates c) (over ts o) k at d
-  pub turns : left + k ≡ gates c
+  pub turns : gates c ≤ left + k
 
 pub record Stands (c ts s o : List ℕ) (left : ℕ) (w : Walk) (d : List ℕ) : Type 0 where
   pub passes : w .pass ≤ 3
   pub more : w .pass ≤ 2 → w .k < gates c
-  pub pass-0 : w .pass ≡ 0 → Tried c o left (w .k) (w .z) d
+  pub pass-0 : w .pass ≡ 0 → Tried c s o left (w .k) (w .z) (w .here .at) d
   pub pass-1 : w .pass ≡ 1 → Checked c ts s o left (w .k) (w .z) (w .here .at) d
   pub pass-2 : w .pass ≡ 2 → Written c ts s o left (w .k) (w .z) (w .here .at) d
   pub ended : w .pass ≡ 3 → EvaluateIs c ts s o (evaluatedOf (w .answer)) d
@@ -103,6 +115,12 @@ pub record Few (k : ℕ) (z : Sizes) (most : ℕ) : Type 0 where
   pub wires : z .n + z .q ≤ 65535
   pub outputs-few : z .m ≤ z .q
   pub charged-few : z .p ≤ most
+
+-- past the row record of a gate of charge x, which is due at an index: a reader finds it there, with the wire number that is due; or 0
+pub record RowPassed (s : List ℕ) (at x due past : ℕ) : Type 0 where
+  pub free : x ≡ 0 → past ≡ at
+  pub found : (x ≡ 0 → ⊥) → (past ≡ 0 → ⊥) → standingAt s at ≡ Standing.Gate (record { 0 = due })
+  pub gone : (x ≡ 0 → ⊥) → (past ≡ 0 → ⊥) → past ≡ at + 4 + 16 * rowsStored (getD s 2 0)
 
 -- past the row record of gate k, at an index, there is room for the last record
 pub record Checks (ts s : List ℕ) (k : ℕ) (z : Sizes) (at : ℕ) : Type 0 where
@@ -120,11 +138,11 @@ pub record Writes (t k s d : List ℕ) (w : Walk) (g : Gate) : Type 0 where
 
 -- ---- what they lead to, for every circuit and every number of turns left: no earlier pass, and where the walk stands then
 
-pub record TriedLeads (ts s : List ℕ) (k : ℕ) (z : Sizes) (r : Walk) : Type 0 where
-  pub leads : (c o d : List ℕ) (left : ℕ) → Tried c o left (k + 1) z d → Stands c ts s o left r d
+pub record TriedLeads (ts s : List ℕ) (k : ℕ) (z : Sizes) (here there : ℕ) (r : Walk) : Type 0 where
+  pub leads : (c o d : List ℕ) (left : ℕ) → Guessed c s k here → Tried c s o left (k + 1) z there d → Stands c ts s o left r d
 
 pub record TryLeads (ts s : List ℕ) (w : Walk) (g : Gate) (r : Walk) : Type 0 where
-  pub leads : (c o d : List ℕ) (left : ℕ) → w .k < gates c → GateIs c (w .k) g → Tried c o (suc left) (w .k) (w .z) d → Stands c ts s o left r d
+  pub leads : (c o d : List ℕ) (left : ℕ) → w .k < gates c → GateIs c (w .k) g → Tried c s o (suc left) (w .k) (w .z) (w .here .at) d → Stands c ts s o left r d
 
 pub record CheckedLeads (ts s : List ℕ) (k : ℕ) (z : Sizes) (at : ℕ) (d : List ℕ) (r : Walk) (d′ : List ℕ) : Type 0 where
   pub on : 1 ≤ r .pass

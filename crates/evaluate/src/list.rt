@@ -1,7 +1,10 @@
 // Evaluation over a list of gate records (01, Circuit): for a caller that runs one circuit many times and has its gates already
-// read. No bytes are made of the records: they are walked three times, in the order in which document 01 refuses. Pass 0 looks
-// for faults in the gates (6 and 7), pass 1 checks their row records (17), pass 2 writes their tokens; between the passes stands
-// what is tried once. All is decided here; `walk_gates` below only hands over one record after the other, in a loop for each pass.
+// read. No bytes are made of the records: they are walked in passes, in the order in which document 01 refuses. Pass 0 looks for
+// faults in the gates (6 and 7), pass 1 checks their row records (17), pass 2 writes their tokens; between the passes stands what
+// is tried once. So that pass 1 need not go over all gates, pass 0 looks at the row records too, before anything is known of the
+// material's header and length. If these are then found right, and every row record before the last gate's was right too, pass 1
+// checks the last gate only; if one was not, pass 1 starts at the first gate and finds the fault that is to be told.
+// All is decided here; `walk_gates` below only hands over one record after the other, in a loop for each pass.
 // Whatever enciphers is lent the T-tables t and the schedule w of π's fixed key.
 ghost use mathlib.Core.Path.{_≡_};
 ghost use Prim.Native.Nat.{_+_, _*_};
@@ -9,7 +12,7 @@ ghost use lib.ListN.{getD};
 ghost use Rattle.model.specs.Circuit.{kindOf, charge};
 ghost use Rattle.model.specs.Material.{rowsStored};
 ghost use Rattle.model.specs.Operations.{evaluatedOf, EvaluateGatesIs};
-ghost use Rattle.evaluate.specs.GateList.{Lent, Ended, GoesTo, Begun, Onward, Few, Checks, Writes, TriedLeads, TryLeads, CheckedLeads, CheckLeads, WriteLeads};
+ghost use Rattle.evaluate.specs.GateList.{Lent, Ended, GoesTo, Begun, Onward, Few, RowPassed, Checks, Writes, TriedLeads, TryLeads, CheckedLeads, CheckLeads, WriteLeads};
 use crate::walk::calls_made;
 use crate::walk::write_charged;
 use crate::walk::write_free;
@@ -22,6 +25,8 @@ use circuit::gates::read_gate;
 use circuit::header::sizes_hold;
 use material::file::check_file;
 use material::last::check_last;
+use material::reader::Standing;
+use material::reader::found_at;
 use material::records::Cursor;
 use material::records::is_row;
 use material::rows_stored;
@@ -38,7 +43,7 @@ pub struct Walk {
     pub pass: u8, // 0, 1 or 2; 3 if it is over
     pub k: usize, // the gate to go to, from 0
     pub z: Sizes, // the sizes; p is counted in pass 0
-    pub here: Cursor, // where the next row record stands
+    pub here: Cursor, // where the next row record is due; in pass 0 place 0, once one was not right
     pub answer: Evaluated, // if it is over
 }
 
@@ -85,24 +90,57 @@ pub fn begin(n: u16, m: u16, q: usize) -> Walk
     go_to(0, 0, z, first)
 }
 
-// Gate k has no fault. After the last gate 11 and 12 to 16 are tried.
-fn gate_tried(k: usize, z: Sizes, tokens: &[u8], material: &[u8]) -> Walk
+// Past the row record of a gate of charge x, if it stands here with the wire number that is due and all of its rows; else place 0,
+// where a right material has its header's mark and so no row record. A free gate has none. For any bytes and any place.
+fn row_passed(material: &[u8], here: Cursor, x: usize, due: Wire) -> Cursor
+    ensures { λ r. ⌜ RowPassed (now (material .entry)) (here .at) x (due .0) (r .at) ⌝ }
+{
+    if x == 0 {
+        return here;
+    }
+    match found_at(material, here.at) {
+        Standing::Gate(found) => {
+            if found.0 != due.0 {
+                return Cursor { at: 0 };
+            }
+            here.past(rows_stored(material[2]))
+        }
+        Standing::Cut(_) => Cursor { at: 0 },
+        Standing::Last => Cursor { at: 0 },
+        Standing::Nothing => Cursor { at: 0 },
+    }
+}
+
+// Gate k has no fault. Its row record is due here, and the next there. After the last gate 11 and 12 to 16 are tried; pass 1 then
+// starts at this gate if the row records before it were right, and else at the first.
+fn gate_tried(
+    k: usize,
+    z: Sizes,
+    here: Cursor,
+    there: Cursor,
+    tokens: &[u8],
+    material: &[u8],
+) -> Walk
     requires { ⌜ Few k z (k + 1) ⌝ }
-    ensures { λ r. ⌜ TriedLeads (now (tokens .entry)) (now (material .entry)) k z r ⌝ }
+    ensures { λ r. ⌜ TriedLeads (now (tokens .entry)) (now (material .entry)) k z (here .at) (there .at) r ⌝ }
 {
     let next = k + 1;
-    let first = Cursor::first();
     if next < z.q {
-        return go_to(0, next, z, first);
+        return go_to(0, next, z, there);
     }
     let len = tokens.len();
     let list = 16 * z.n;
     if len != list {
-        return ended(k, z, first, Evaluated::Refused(Refusal::TokensLength(len)));
+        return ended(k, z, here, Evaluated::Refused(Refusal::TokensLength(len)));
     }
     match check_file(material, z) {
-        Ran::Refused(f) => ended(k, z, first, Evaluated::Refused(f)),
-        Ran::Done => go_to(1, 0, z, first),
+        Ran::Refused(f) => ended(k, z, here, Evaluated::Refused(f)),
+        Ran::Done => {
+            if here.at == 0 {
+                return go_to(1, 0, z, Cursor::first());
+            }
+            go_to(1, k, z, here)
+        }
     }
 }
 
@@ -114,6 +152,7 @@ pub fn try_gate(s: Walk, g: Gate, tokens: &[u8], material: &[u8]) -> Walk
     let k = s.k;
     let z = s.z;
     let n = z.n;
+    let here = s.here;
     let own = Wire((n + k + 1) as u16);
     match read_gate(own, g) {
         GateRead::Fine(x) => {
@@ -123,9 +162,10 @@ pub fn try_gate(s: Walk, g: Gate, tokens: &[u8], material: &[u8]) -> Walk
                 q: z.q,
                 p: z.p + x,
             };
-            gate_tried(k, counted, tokens, material)
+            let there = row_passed(material, here, x, own);
+            gate_tried(k, counted, here, there, tokens, material)
         }
-        GateRead::Fault(f) => ended(k, z, s.here, Evaluated::Refused(f)),
+        GateRead::Fault(f) => ended(k, z, here, Evaluated::Refused(f)),
     }
 }
 

@@ -7,5 +7,5 @@ pub try-gate-spec : {M : Type 1} → statement M
 try-gate-spec =
     tie.close
     (tie.spec (λ c. search needs) (λ c. search needs) (λ c. search needs) (λ c κs. search needs) (λ c. search needs)
-    (λ c. search try-cases) (λ c κs. search try-cases) (λ c. search needs) (λ c κs. search needs) (λ c. search try-cases)
-    (λ c. search try-cases))
+    (λ c. search try-cases) (λ c κs. search needs) (λ c κs. search try-cases) (λ c. search needs) (λ c κs. search needs)
+    (λ c. search try-cases) (λ c. search try-cases))
