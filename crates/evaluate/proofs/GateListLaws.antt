@@ -214,9 +214,9 @@ pub ruleset passed-asks = (scheme-inside, look-fits)
 
 pub ruleset passed-cases = (passed-free, passed-not, passed-right)
 
--- ---- where the next row record is, if those of k gates and of the gate after them are right
+-- ---- where the next row record is due, past that of gate k
 
--- the header has another mark than a row record
+-- place 0 has another mark than a row record
 header-mark : (c s : List ℕ) → fileVerdict (circuitOf c) s ≡ fine → markAt s 0 0x47 0x48 ≡ true
 unfolding fileVerdict
 header-mark c s e =
@@ -372,7 +372,7 @@ module _ (ts s : List ℕ) (w : Walk) (g : Gate) (found : GateRead) (is-found : 
     charged-few = omega (arith, at-most-one x e, few .charged-few);
   }
 
-  -- without a fault, it adds its charge
+  -- where the next row record is due then
   module _ (x : ℕ) (e : found ≡ GateRead.Fine x) (there : Cursor) (passed : RowPassed s (w .here .at) x (w .z .n + w .k + 1) (there .at)) where
     guess : (c : List ℕ) → w .z .n ≡ inputs c → w .k < gates c → GateIs c (w .k) g → Guessed c s (w .k) (w .here .at) → Guessed c s (w .k + 1) (there .at)
     guess c is-n h is before = by-charge x refl
@@ -387,6 +387,7 @@ module _ (ts s : List ℕ) (w : Walk) (g : Gate) (found : GateRead) (is-found : 
             guess-charged c s (w .k) h g (is .is-g) (w .here) before (λ z. some (is-x ∙ z)) (w .z .n + w .k + 1) (rw is-n) there (passed .found some)
             (passed .gone some)
 
+  -- without a fault, it adds its charge
   pub try-fine : (x : ℕ) → found ≡ GateRead.Fine x → (there : Cursor) → RowPassed s (w .here .at) x (w .z .n + w .k + 1) (there .at) → (r : Walk)
       → TriedLeads ts s (w .k) (counted x) (w .here .at) (there .at) r → TryLeads ts s w g r
   try-fine x e there passed r next = record {

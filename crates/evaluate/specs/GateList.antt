@@ -66,11 +66,11 @@ pub record RowsRight (c s : List ℕ) (k at : ℕ) : Type 0 where
   pub no-fault : firstOf (rowVerdict (circuitOf c) s) k ≡ fine
   pub placed : at ≡ rowStart (circuitOf c) s k
 
--- the same before anything is known of the material: if the index is not 0, and the circuit and the material's header and length turn out right
+-- what an index that is not 0 tells in pass 0, before the circuit, or the material's header and length, are known to be right: if they are, the same
 pub record Guessed (c s : List ℕ) (k at : ℕ) : Type 0 where
   pub rows : (at ≡ 0 → ⊥) → Filed c (sizesOf c) s → RowsRight c s k at
 
--- pass 0: k gates have no fault, and where the next row record is, if those so far are right
+-- pass 0: k gates have no fault; the index is where the next row record is due, or 0
 pub record Tried (c s o : List ℕ) (left k : ℕ) (z : Sizes) (at : ℕ) (d : List ℕ) : Type 0 where
   pub head : headVerdict c ≡ fine
   pub is-n : z .n ≡ inputs c
@@ -83,7 +83,7 @@ pub record Tried (c s o : List ℕ) (left k : ℕ) (z : Sizes) (at : ℕ) (d : L
   pub untouched : d ≡ o
   pub turns : left + k ≡ 3 * gates c
 
--- pass 1: the row records of k gates are right. It may have started at the last gate: there are at least so many turns left, from here on
+-- pass 1: the row records of k gates are right. The turns left are at least as many as are needed: it may have started at the last gate
 pub record Checked (c ts s o : List ℕ) (left k : ℕ) (z : Sizes) (at : ℕ) (d : List ℕ) : Type 0 where
   pub known : Filed c z s
   pub tokens : length ts ≡ 16 * inputs c
@@ -92,7 +92,7 @@ pub record Checked (c ts s o : List ℕ) (left k : ℕ) (z : Sizes) (at : ℕ) (
   pub untouched : d ≡ o
   pub turns : 2 * gates c ≤ left + k
 
--- pass 2: the tokens of k gates are written
+-- pass 2: the tokens of k gates are written; the turns left are at least as many as are needed
 pub record Written (c ts s o : List ℕ) (left k : ℕ) (z : Sizes) (at : ℕ) (d : List ℕ) : Type 0 where
   pub sizes : z ≡ sizesOf c
   pub fit : evaluateVerdict c ts s (length o) ≡ fine
@@ -116,7 +116,8 @@ pub record Few (k : ℕ) (z : Sizes) (most : ℕ) : Type 0 where
   pub outputs-few : z .m ≤ z .q
   pub charged-few : z .p ≤ most
 
--- past the row record of a gate of charge x, which is due at an index: a reader finds it there, with the wire number that is due; or 0
+-- past the row record of a gate of charge x: the index itself for a free gate; for a charged one past what a reader finds there, whole and with the
+-- wire number that is due, or 0
 pub record RowPassed (s : List ℕ) (at x due past : ℕ) : Type 0 where
   pub free : x ≡ 0 → past ≡ at
   pub found : (x ≡ 0 → ⊥) → (past ≡ 0 → ⊥) → standingAt s at ≡ Standing.Gate (record { 0 = due })
