@@ -1,26 +1,27 @@
--- One gate, evaluated: the rows that are loaded from its record, and its token by each scheme; and that of a gate that is not charged. Assumes nothing.
+-- One gate, evaluated: the rows that are loaded from its record, and its token by each scheme; and a free gate's token. Assumes nothing.
 use Prim.Native.Nat.{ℕ, zero, suc, _+_, _*_, _-_, _≤_, _<_}
+use native.Mathlib.Decide.{decLt}
 use native.Mathlib.Omega.{arith}
 use mathlib.Core.Path.{_≡_, refl, sym, ap, _∙_}
+use mathlib.Core.Bool.{false, false≢true}
 use mathlib.Core.List.{List, _∷_}
 use borrow.Author.Tests.{ne-eqb}
-use lib.ListN.{length, getD, take, drop}
+use lib.ListN.{length, getD, take, drop, List·getD-eq-default}
 use lib.Seq.{drop-drop}
-use Rattle.model.specs.declared.Kind as Kinds
-use Rattle.model.specs.declared.Truth.{Truth}
-use Rattle.model.specs.Circuit.{charged, free, refused, kindOf, charge, value}
+use Rattle.model.specs.Circuit.{Kind, charged, free, refused, kinds, kindOf, charge}
+use Rattle.model.specs.Bytes.{tabulate}
 use Rattle.model.specs.Aes.{Block, block}
+use Rattle.model.specs.Scheme.{Scheme}
+use Rattle.model.specs.Refusals.{isRefused}
+use Rattle.model.proofs.Lists.{entry}
 use Rattle.model.specs.Tokens.{colour, freeToken}
 use Rattle.model.specs.Gax.{dualKey, openRow, gax}
 use Rattle.model.specs.Gaxr.{gaxr}
 use Rattle.model.specs.HalfGates.{hash, joined, half}
 use Rattle.model.specs.Garbling.{schemeOf}
 use Rattle.model.specs.Evaluation.{cut, openAt}
-use Rattle.model.proofs.Bits.{Bit, b0, b1}
 use Rattle.model.proofs.Blocks.{cut-at}
-use Rattle.model.proofs.Codes.{Means, code-means}
-use Rattle.circuit.specs.Answers.{meaning}
-use Rattle.evaluate.specs.Gate.{RowRoom, RecordRoom, OpenedFree}
+use Rattle.evaluate.specs.Gate.{RowRoom, RecordRoom}
 
 -- row j of k rows that start at an index
 row-at : (k j first : ℕ) (s : List ℕ) → j < k → take 16 (drop (first + 16 * j) s) ≡ getD (cut k (drop first s)) j (block 0)
@@ -99,45 +100,42 @@ pub ruleset charged-rooms = (gax-room, gaxr-room, half-room-g, half-room-e)
 
 pub ruleset charged-opens = (gax-opens, gaxr-opens, half-opens)
 
--- ---- open_free: k is the code's kind
+-- ---- a free gate's token
 
-low : {x : ℕ} → Bit x → x ≤ 1
-low b0 = omega arith
-low b1 = omega arith
+-- a free code takes both operands
+both : Kind → Kind
+both (charged u v x) = charged u v x
+both (free p q c) = free 1 1 c
+both refused = refused
 
-module _ (code : ℕ) (k : Kinds.Kind) (is-k : meaning k ≡ kindOf code) where
-  pub not-charged : (u v own : Truth) → k ≡ Kinds.Kind.Charged u v own → charge (kindOf code) ≡ 0 → (a b x : Block) → OpenedFree code a b x
-  not-charged u v own e h a b x =
-      let f : kindOf code ≡ charged (u .0) (v .0) (own .0) = sym (rw e at is-k) in
-      absurd (none (rw f at h))
+-- computed over the sixteen codes
+takes-both : (code : ℕ) → code < 16 → both (kindOf code) ≡ kindOf code
+unfolding kindOf kinds both
+takes-both code h =
+    let all : tabulate 16 (λ k. both (kindOf k)) ≡ tabulate 16 kindOf = refl in
+    sym (entry refused 16 (λ k. both (kindOf k)) code h) ∙ ap (λ (ks : List Kind). getD ks code refused) all ∙ entry refused 16 kindOf code h
+
+module _ (code : ℕ) (known : isRefused (kindOf code) ≡ false) (none : charge (kindOf code) ≡ 0) where
+  few : code < 16
+  few = go (decLt code 16)
     where
-      none : charge (charged (u .0) (v .0) (own .0)) ≡ 0 → ⊥
-      none l = omega arith
+      go : Dec (code < 16) → code < 16
+      go (Dec.yes h) = h
+      go (Dec.no h) =
+          let past : kindOf code ≡ refused = unfold kindOf kinds in (List·getD-eq-default kinds refused {n = code} (omega arith)) in
+          absurd (false≢true (sym (rw past at known)))
 
-  module _ (p q c : ℕ) (e : k ≡ Kinds.Kind.Free p q c) where
-    is-free : kindOf code ≡ free p q c
-    is-free = sym (rw e at is-k)
-
-    table : Means (value code) (free p q c)
-    table = rw is-free at (code-means code)
-
-    pub free-p : p ≤ 1
-    free-p = low (table .bit-p)
-
-    pub free-q : q ≤ 1
-    free-q = low (table .bit-q)
-
-    pub free-opened : (a b x : Block) → x ≡ freeToken p q a b → OpenedFree code a b x
-    unfolding openAt
-    free-opened a b x is-x = record { is-token = λ S g bs. rw is-free is-x }
-
-  pub refused-opened : k ≡ Kinds.Kind.Refused → (a b x : Block) → x ≡ block 0 → OpenedFree code a b x
-  unfolding openAt
-  refused-opened e a b x is-x =
-      let f : kindOf code ≡ refused = sym (rw e at is-k) in
-      record { is-token = λ S g bs. rw f is-x }
-
-pub ruleset free-opens = (not-charged, free-p, free-q, free-opened, refused-opened)
+  pub free-opened : (S : Scheme) (g : ℕ) (bs : List ℕ) (a b : Block) → openAt S (kindOf code) g bs a b ≡ freeToken 1 1 a b
+  unfolding openAt both
+  free-opened S g bs a b = go (kindOf code) (takes-both code few) known none
+    where
+      go : (k : Kind) → both k ≡ k → isRefused k ≡ false → charge k ≡ 0 → openAt S k g bs a b ≡ freeToken 1 1 a b
+      go (charged u v x) e l h = absurd (one h)
+        where
+          one : charge (charged u v x) ≡ 0 → ⊥
+          one i = omega arith
+      go (free p q c) e l h = ap (λ (k : Kind). openAt S k g bs a b) (sym e)
+      go refused e l h = absurd (false≢true (sym l))
 
 -- ---- calls_made
 module _ (scheme p : ℕ) where

@@ -4,6 +4,7 @@ use native.Mathlib.Nat.{add-mul, mul-le-mul-right}
 use native.Mathlib.Numerals.{add-one}
 use native.Mathlib.Omega.{arith}
 use mathlib.Core.Path.{_≡_, refl, sym, ap, _∙_}
+use mathlib.Core.Bool.{false}
 use mathlib.Core.List.{List, [], _∷_, _++_}
 use lib.ListN.{length, getD, take, drop, take-append-drop}
 use lib.Seq.{drop-drop, length-take-le, take-at}
@@ -15,8 +16,11 @@ use Rattle.model.specs.Circuit.{Kind, charged, free, refused, circuitOf, inputs
 use Rattle.model.specs.Aes.{Block, block}
 use Rattle.model.specs.Scheme.{Scheme}
 use Rattle.model.specs.Garbling.{schemeOf}
+use Rattle.model.specs.Tokens.{freeToken}
 use Rattle.model.specs.Material.{joinBlocks, materialLength, rowsStored}
 use Rattle.model.specs.Evaluation.{cut, openAt, openStep, run, evaluate, evaluateBytes, tokenAt}
+use Rattle.model.specs.Refusals.{isRefused}
+use Rattle.model.proofs.Codes.{Used, used-charged, used-free}
 use Rattle.model.proofs.Accepted.{HeaderHolds, GateHolds, accepted-header, accepted-gate}
 use Rattle.model.proofs.Lists.{tabulate-snoc, tabulate-length}
 use Rattle.model.proofs.Buffers.{over-length, over-over, over-put, put-length}
@@ -26,7 +30,8 @@ use Rattle.model.proofs.Gates.{recordLength, open-at-wide}
 use Rattle.model.proofs.Lengths.{run-blocks}
 use Rattle.model.proofs.OneMore.{run-snoc}
 use Rattle.model.proofs.Schemes.{scheme-sound, rows-stored}
-use Rattle.evaluate.specs.Gate.{RecordRoom, GateRoom, OpenedFree}
+use Rattle.evaluate.specs.Gate.{RecordRoom, GateRoom}
+use Rattle.evaluate.proofs.GateLaws.{free-opened}
 use Rattle.evaluate.specs.Walk.{Operands, TokenStart, TokenIs, FreeTokenIs, StepStart, WalkStart, WiresStart, S, tokensTo, recordStart, Walking}
 
 -- a charged gate's token, by its scheme
@@ -58,11 +63,11 @@ module _ (n k : ℕ) (g : Gate) (d : List ℕ) (start : Operands n k g d) where
 
 module _ (n k : ℕ) (g : Gate) (d : List ℕ) (A B : Block) (is-A : A ≡ take 16 (drop (16 * (g .a - 1)) d)) (is-B : B ≡ take 16 (drop (16 * (g .b - 1)) d))
     (x : Block) (d′ : List ℕ) (is-d : d′ ≡ put d (16 * (n + k)) x) where
-  pub free-done : charge (kindOf (g .code)) ≡ 0 → OpenedFree (g .code) A B x → FreeTokenIs n k g d d′
+  pub free-done : Operands n k g d → charge (kindOf (g .code)) ≡ 0 → x ≡ freeToken 1 1 A B → FreeTokenIs n k g d d′
   unfolding tokenAt
-  free-done h is-x = record {
+  free-done start h is-x = record {
     left = λ scheme s at. record {
-      token-left = is-d ∙ rw (is-x .is-token (schemeOf scheme) (gateWire n k) (drop at s), is-A, is-B);
+      token-left = is-d ∙ rw (is-x ∙ sym (free-opened (g .code) (start .known) h (schemeOf scheme) (gateWire n k) (drop at s) A B), is-A, is-B);
       is-next = rw h (omega arith);
     };
   }
@@ -87,6 +92,11 @@ pub charged-room : (scheme code at : ℕ) (s : List ℕ) → GateRoom scheme cod
 charged-room scheme code at s r h = let l = rw h at (r .room) in record { low = r .low; high = r .high; room = omega arith }
 
 -- ---- write_token_at
+
+used-known : {k : Kind} → Used k → isRefused k ≡ false
+used-known used-charged = refl
+used-known used-free = refl
+
 module _ (scheme : ℕ) (c : List ℕ) (n k : ℕ) (s : List ℕ) (at : ℕ) (d : List ℕ) (start : StepStart scheme c n k s at d) where
   in-circuit : HeaderHolds c
   in-circuit = accepted-header c (start .accepted)
@@ -106,6 +116,7 @@ module _ (scheme : ℕ) (c : List ℕ) (n k : ℕ) (s : List ℕ) (at : ℕ) (d 
           a-low = held .a-low;
           order = held .order;
           b-high = held .b-high;
+          known = used-known (held .used);
           token-room = start .token-room;
         };
         record-room = rw is-g (start .record-room);

@@ -1,13 +1,9 @@
 -- One gate, evaluated: the room that its record has in the material s, and what is left. Document 01, "Scheme 1" to "Scheme 3".
 use Prim.Native.Nat.{ℕ, _+_, _*_, _≤_}
-use mathlib.Core.Path.{_≡_}
 use mathlib.Core.List.{List}
 use lib.ListN.{length}
 use Rattle.model.specs.Circuit.{kindOf, charge}
-use Rattle.model.specs.Aes.{Block}
-use Rattle.model.specs.Scheme.{Scheme}
 use Rattle.model.specs.Garbling.{schemeOf}
-use Rattle.model.specs.Evaluation.{openAt}
 
 -- room for rows 1 to 3 of scheme 2, from an index on; i is one of them, or 0
 pub record RowRoom (first i : ℕ) (s : List ℕ) : Type 0 where
@@ -25,7 +21,3 @@ pub record GateRoom (scheme code at : ℕ) (s : List ℕ) : Type 0 where
   pub low : 1 ≤ scheme
   pub high : scheme ≤ 3
   pub room : at + charge (kindOf code) * (4 + 16 * schemeOf scheme .stored) ≤ length s
-
--- r is the token of a gate that is not charged, from the tokens A and B: by every scheme, on every wire and over every material
-pub record OpenedFree (code : ℕ) (A B r : Block) : Type 0 where
-  pub is-token : (S : Scheme) (g : ℕ) (bs : List ℕ) → r ≡ openAt S (kindOf code) g bs A B

@@ -1,6 +1,7 @@
 -- The walk over the gates of a circuit c, with the material s: what it starts from, and what one gate leaves. Document 01, "Operations".
 use Prim.Native.Nat.{ℕ, _+_, _*_, _≤_, _<_}
 use mathlib.Core.Path.{_≡_}
+use mathlib.Core.Bool.{false}
 use mathlib.Core.List.{List}
 use lib.ListN.{length, getD, drop}
 use Rattle.model.specs.declared.Gate.{Gate}
@@ -11,15 +12,16 @@ use Rattle.model.specs.Scheme.{Scheme}
 use Rattle.model.specs.Garbling.{schemeOf}
 use Rattle.model.specs.Material.{joinBlocks, materialLength}
 use Rattle.model.specs.Evaluation.{cut, openAt, run, tokenAt}
-use Rattle.model.specs.Refusals.{fine, circuitVerdict}
+use Rattle.model.specs.Refusals.{fine, isRefused, circuitVerdict}
 use Rattle.evaluate.specs.Gate.{GateRoom}
 
--- gate g is the next, k gates after n inputs, and its operands stand before it; d is the buffer of the tokens
+-- gate g is the next, k gates after n inputs, its operands stand before it and its code is not refused; d is the buffer of the tokens
 pub record Operands (n k : ℕ) (g : Gate) (d : List ℕ) : Type 0 where
   pub few : n + k < 65535
   pub a-low : 1 ≤ g .a
   pub order : g .a < g .b
   pub b-high : g .b < gateWire n k
+  pub known : isRefused (kindOf (g .code)) ≡ false
   pub token-room : 16 * (n + k) + 16 ≤ length d
 
 -- and its record is at an index of the material s if it is charged
@@ -32,7 +34,7 @@ pub record TokenIs (scheme n k : ℕ) (g : Gate) (s : List ℕ) (at : ℕ) (d : 
   pub token-left : d′ ≡ put d (16 * (n + k)) (openAt (schemeOf scheme) (kindOf (g .code)) (gateWire n k) (drop at s) (tokenAt d (g .a)) (tokenAt d (g .b)))
   pub is-next : next ≡ at + charge (kindOf (g .code)) * (4 + 16 * schemeOf scheme .stored)
 
--- that of a gate that is not charged, by every scheme and over every material: the next record is still at its index
+-- that of a free gate, by every scheme and over every material: the next record is still at its index
 pub record FreeTokenIs (n k : ℕ) (g : Gate) (d d′ : List ℕ) : Type 0 where
   pub left : (scheme : ℕ) (s : List ℕ) (at : ℕ) → TokenIs scheme n k g s at d at d′
 

@@ -1,20 +1,16 @@
-// One gate, evaluated: its token, from the tokens held on its operands (01, Tokens and Scheme 1 to Scheme 3).
+// One charged gate, evaluated: its token, from the tokens held on its operands (01, Tokens and Scheme 1 to Scheme 3).
 // Whatever enciphers is lent the T-tables t and the schedule w of π's fixed key.
 ghost use mathlib.Core.Path.{_≡_};
 ghost use mathlib.Core.List.{_∷_};
 ghost use lib.ListN.{getD, drop};
 ghost use Rattle.aes.specs.Tables.{IsTTables};
 ghost use Rattle.model.specs.Aes.{keyExpansion, fixedKey, block};
-ghost use Rattle.model.specs.Circuit.{kindOf, charge};
 ghost use Rattle.model.specs.Garbling.{schemeOf};
 ghost use Rattle.model.specs.Evaluation.{cut};
-ghost use Rattle.evaluate.specs.Gate.{RowRoom, RecordRoom, OpenedFree};
+ghost use Rattle.evaluate.specs.Gate.{RowRoom, RecordRoom};
 use block::Block;
 use block::load;
-use circuit::code::code_kind;
-use model::Kind;
 use model::Wire;
-use scheme::free_token;
 use scheme::open_half;
 use scheme::open_row;
 use scheme::row_index;
@@ -60,17 +56,5 @@ pub fn open_charged(
             a,
             b,
         ),
-    }
-}
-
-// The token of a gate that is not charged, from the tokens a and b: it has no record. An accepted circuit has no refused one.
-pub fn open_free(code: u8, a: Block, b: Block) -> Block
-    requires { ⌜ charge (kindOf code) ≡ 0 ⌝ }
-    ensures { λ r. ⌜ OpenedFree code (a .bytes) (b .bytes) (r .bytes) ⌝ }
-{
-    match code_kind(code) {
-        Kind::Charged(_, _, _) => Block::of_number(0),
-        Kind::Free { p, q, c: _ } => free_token(p, q, a, b),
-        Kind::Refused => Block::of_number(0),
     }
 }

@@ -12,7 +12,6 @@ ghost use Rattle.model.specs.Evaluation.{cut, evaluate, evaluateBytes};
 ghost use Rattle.evaluate.specs.Gate.{RecordRoom};
 ghost use Rattle.evaluate.specs.Walk.{Operands, FreeTokenIs, TokenIs, StepStart, WalkStart, WiresStart};
 use crate::gate::open_charged;
-use crate::gate::open_free;
 use aes::fixed_schedule;
 use aes::t_tables;
 use block::load;
@@ -24,9 +23,10 @@ use material::records::Cursor;
 use material::rows_stored;
 use model::Gate;
 use model::Wire;
+use scheme::free_token;
 
-// Gate k, from 0, of a circuit of n inputs is g, and is not charged: its token, which needs no material, is written after those of the
-// wires before it.
+// Gate k, from 0, of a circuit of n inputs is g, and is free: its token, which needs no material, is written after those of the wires
+// before it. Both free codes take both operands.
 pub fn write_free(n: usize, k: usize, g: Gate, wires: &mut [u8])
     requires { ⌜ Operands n k g (now wires) ⌝ }
     requires { ⌜ charge (kindOf (g .code)) ≡ 0 ⌝ }
@@ -35,8 +35,7 @@ pub fn write_free(n: usize, k: usize, g: Gate, wires: &mut [u8])
     let place = 16 * (n + k);
     let a = load(wires, 16 * (g.a as usize - 1));
     let b = load(wires, 16 * (g.b as usize - 1));
-    let token = open_free(g.code, a, b);
-    store(wires, place, token);
+    store(wires, place, free_token(1, 1, a, b));
 }
 
 // The same of a charged gate, whose row record stands here.
