@@ -7,6 +7,7 @@ use Rattle.model.specs.Scheme.{Site}
 use Rattle.model.specs.Gax.{keyBlock, carried, tokenOf, valueAt, sealed, rowAt, dualKey}
 use Rattle.model.specs.Gaxr.{reducedZero}
 use Rattle.model.specs.HalfGates.{hash, joined}
+use Rattle.scheme.specs.Garbled.{maskOf}
 use Rattle.model.proofs.Xor.{⊕-assoc, ⊕-zero, ⊕-length}
 
 -- the token of a colour: y is R where the token carries v = 1
@@ -14,17 +15,15 @@ pub token-is : (r x : Block) (c v : ℕ) (y a : Block) → a ≡ x ⊕ y → y �
 unfolding tokenOf
 token-is r x c v y a is-a is-y is-v = rw (is-a, is-y, is-v)
 
--- E under the tokens a and b of colours c and d
-pub sealed-is : (s : Site) (c d : ℕ) (z a b x : Block) (t : ℕ) → x ≡ dualKey a b t z → a ≡ tokenOf (s .R) (s .Xa) c → b ≡ tokenOf (s .R) (s .Xb) d
-    → t ≡ 4 * s .g + 2 * c + d → x ≡ sealed dualKey s c d z
-unfolding sealed
-sealed-is s c d z a b x t is-x is-a is-b is-t = rw (is-x, is-a, is-b, is-t)
-
--- E of block 0: p is π(k)
-pub mask-is : (a b : Block) (t : ℕ) (k p x : Block) → k ≡ keyBlock a b t → p ≡ π k → x ≡ p ⊕ k → x ≡ dualKey a b t (block 0)
-unfolding dualKey keyBlock
-mask-is a b t k p x is-k is-p is-x =
-    rw (is-x, is-p, is-k) (ap (λ (y : Block). π (keyBlock a b t) ⊕ y) (sym (⊕-zero (keyBlock a b t) (⊕-length (double a) (quadruple b ⊕ block t)))))
+-- E of block 0 under the tokens of colours c and d, from twice the one, a, and four times the other, b
+pub mask-is : (s : Site) (c d : ℕ) (a b x : Block) (t : ℕ) → x ≡ maskOf (a ⊕ b ⊕ block t) → a ≡ double (tokenOf (s .R) (s .Xa) c)
+    → b ≡ quadruple (tokenOf (s .R) (s .Xb) d) → t ≡ 4 * s .g + 2 * c + d → x ≡ sealed dualKey s c d (block 0)
+unfolding sealed dualKey keyBlock
+mask-is s c d a b x t is-x is-a is-b is-t =
+    let A = tokenOf (s .R) (s .Xa) c in
+    let B = tokenOf (s .R) (s .Xb) d in
+    let T : ℕ = 4 * s .g + 2 * c + d in
+    rw (is-x, is-a, is-b, is-t) (ap (λ (y : Block). π (keyBlock A B T) ⊕ y) (sym (⊕-zero (keyBlock A B T) (⊕-length (double A) (quadruple B ⊕ block T)))))
 
 -- E of z is that of block 0, ⊕ z
 masked : (a b : Block) (t : ℕ) (z : Block) → dualKey a b t (block 0) ⊕ z ≡ dualKey a b t z

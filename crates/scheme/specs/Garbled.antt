@@ -3,7 +3,7 @@ use Prim.Native.Nat.{ℕ}
 use mathlib.Core.Path.{_≡_}
 use mathlib.Core.List.{[], _∷_}
 use lib.ListN.{take}
-use Rattle.model.specs.Aes.{Block, _⊕_}
+use Rattle.model.specs.Aes.{Block, _⊕_, π}
 use Rattle.model.specs.Scheme as Model
 use Rattle.model.specs.HalfGates.{hash}
 use Rattle.scheme.specs.declared.Site.{Site}
@@ -18,6 +18,10 @@ site s = record { R = s .r .bytes; fresh = s .fresh .bytes; g = s .g .0; code = 
 pub record GarbledIs (S : Model.Scheme) (σ : Model.Site) (r : GarbledGate) : Type 0 where
   pub is-zero : r .zero .bytes ≡ S .zeroToken σ
   pub is-rows : take (S .stored) (r .row0 .bytes ∷ r .row1 .bytes ∷ r .row2 .bytes ∷ r .row3 .bytes ∷ []) ≡ S .rows σ
+
+-- what E exclusive-ors to a token, by its block K: "π(K) ⊕ K"
+abbrev pub maskOf : Block → Block
+maskOf k = π k ⊕ k
 
 -- h is the half-gate of the token x under the tweak i, whose row has z in it
 pub record HalfIs (R x : Block) (i : ℕ) (z : Block) (h : HalfGate) : Type 0 where

@@ -7,8 +7,9 @@ use block::Halves;
 ghost use mathlib.Core.Path.{_≡_};
 ghost use Prim.Native.Nat.{_≤_};
 ghost use Rattle.aes.specs.Tables.{IsTTables};
-ghost use Rattle.model.specs.Aes.{keyExpansion, fixedKey, times, block};
-ghost use Rattle.model.specs.Gax.{keyBlock, dualKey};
+ghost use Rattle.model.specs.Aes.{_⊕_, keyExpansion, fixedKey, times, block};
+ghost use Rattle.model.specs.Gax.{dualKey};
+ghost use Rattle.scheme.specs.Garbled.{maskOf};
 ghost use Rattle.model.specs.HalfGates.{hashBlock, hash};
 
 // "A bit times a block is the block or zero" (01, Scheme 3): by a mask, since a colour is as good as random and a branch on it costs more.
@@ -25,11 +26,11 @@ pub fn times(b: Block, bit: u8) -> Block
     y.block()
 }
 
-// "K = 2A ⊕ 4B ⊕ T" (01, Scheme 1).
+// "K = 2A ⊕ 4B ⊕ T" (01, Scheme 1), from 2A and 4B.
 fn key_block(a: Block, b: Block, tweak: u64) -> Block
-    ensures { λ r. ⌜ r .bytes ≡ keyBlock (a .bytes) (b .bytes) tweak ⌝ }
+    ensures { λ r. ⌜ r .bytes ≡ a .bytes ⊕ b .bytes ⊕ block tweak ⌝ }
 {
-    a.doubled().xor(b.quadrupled().xor(Block::of_number(tweak)))
+    a.xor(b.xor(Block::of_number(tweak)))
 }
 
 // "E(A,B,T,Z) = π(K) ⊕ K ⊕ Z" (01, Scheme 1): one call of π.
@@ -38,11 +39,12 @@ pub fn dual_key(m: &[u32; 1024], w: &[u8; 176], a: Block, b: Block, tweak: u64, 
     requires { ⌜ now w ≡ keyExpansion fixedKey ⌝ }
     ensures { λ r. ⌜ r .bytes ≡ dualKey (a .bytes) (b .bytes) tweak (z .bytes) ⌝ }
 {
-    let k = key_block(a, b, tweak);
+    let k = key_block(a.doubled(), b.quadrupled(), tweak);
     permute_fast(m, w, k).xor(k.xor(z))
 }
 
-// E of block 0 under a token A with two tokens B, side by side: what is sealed is exclusive-ored in afterwards. Two calls of π.
+// E of block 0 under a token A with two tokens B, from 2A and the two 4B, which the four rows of a gate share. What is sealed is
+// exclusive-ored in afterwards. Two calls of π.
 pub fn dual_pair(
     m: &[u32; 1024],
     w: &[u8; 176],
@@ -54,7 +56,7 @@ pub fn dual_pair(
 ) -> Pair
     requires { ⌜ IsTTables (now m) ⌝ }
     requires { ⌜ now w ≡ keyExpansion fixedKey ⌝ }
-    ensures { λ r. ⌜ (r .x .bytes ≡ dualKey (a .bytes) (b .bytes) i (block 0)) × (r .y .bytes ≡ dualKey (a .bytes) (c .bytes) j (block 0)) ⌝ }
+    ensures { λ r. ⌜ (r .x .bytes ≡ maskOf (a .bytes ⊕ b .bytes ⊕ block i)) × (r .y .bytes ≡ maskOf (a .bytes ⊕ c .bytes ⊕ block j)) ⌝ }
 {
     let k = key_block(a, b, i);
     let l = key_block(a, c, j);

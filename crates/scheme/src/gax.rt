@@ -14,7 +14,7 @@ use model::Wire;
 ghost use mathlib.Core.Path.{_≡_};
 ghost use Prim.Native.Nat.{_+_, _*_, _≤_};
 ghost use Rattle.aes.specs.Tables.{IsTTables};
-ghost use Rattle.model.specs.Aes.{block, keyExpansion, fixedKey};
+ghost use Rattle.model.specs.Aes.{block, quadruple, keyExpansion, fixedKey};
 ghost use Rattle.model.specs.Tokens.{colour};
 ghost use Rattle.model.specs.Gax.{dualKey, carried, tokenOf, valueAt, sealed, rowAt, gax};
 ghost use Rattle.model.specs.Gaxr.{reducedZero, gaxr};
@@ -53,25 +53,28 @@ fn tweak(g: Wire, c: Colour, d: Colour) -> u64
     4 * (g.0 as u64) + 2 * (c.0 as u64) + (d.0 as u64)
 }
 
-// E of block 0 under the operands' tokens of colours c,0 and of colours c,1: two calls of π. E of z is this ⊕ z.
-fn masks(m: &[u32; 1024], w: &[u8; 176], s: Site, c: Colour) -> Pair
+// Four times the token of colour d on the second operand.
+fn quadrupled(s: Site, d: Colour) -> Block
+    requires { ⌜ d .0 ≤ 1 ⌝ }
+    ensures { λ r. ⌜ r .bytes ≡ quadruple (tokenOf (s .r .bytes) (s .xb .bytes) (d .0)) ⌝ }
+{
+    token_of(s.r, s.xb, d).quadrupled()
+}
+
+// E of block 0 under the operands' tokens of colours c,0 and of colours c,1: two calls of π. E of z is this ⊕ z. b and d are four times the
+// second operand's tokens.
+fn masks(m: &[u32; 1024], w: &[u8; 176], s: Site, c: Colour, b: Block, d: Block) -> Pair
     requires { ⌜ IsTTables (now m) ⌝ }
     requires { ⌜ now w ≡ keyExpansion fixedKey ⌝ }
     requires { ⌜ c .0 ≤ 1 ⌝ }
+    requires { ⌜ b .bytes ≡ quadruple (tokenOf (s .r .bytes) (s .xb .bytes) 0) ⌝ }
+    requires { ⌜ d .bytes ≡ quadruple (tokenOf (s .r .bytes) (s .xb .bytes) 1) ⌝ }
     ensures { λ r. ⌜ (r .x .bytes ≡ sealed dualKey (site s) (c .0) 0 (block 0)) × (r .y .bytes ≡ sealed dualKey (site s) (c .0) 1 (block 0)) ⌝ }
 {
-    let a = token_of(s.r, s.xa, c);
-    let b = token_of(s.r, s.xb, Colour(0));
-    let d = token_of(s.r, s.xb, Colour(1));
-    dual_pair(
-        m,
-        w,
-        a,
-        b,
-        tweak(s.g, c, Colour(0)),
-        d,
-        tweak(s.g, c, Colour(1)),
-    )
+    let a = token_of(s.r, s.xa, c).doubled();
+    let i = tweak(s.g, c, Colour(0));
+    let j = tweak(s.g, c, Colour(1));
+    dual_pair(m, w, a, b, i, d, j)
 }
 
 // Row 2c+d: the gate's token for its value, sealed by the mask of colours c and d. x is the gate's zero token.
@@ -91,8 +94,10 @@ pub fn garble_gax(m: &[u32; 1024], w: &[u8; 176], s: Site) -> GarbledGate
     ensures { λ r. ⌜ GarbledIs (gax dualKey) (site s) r ⌝ }
 {
     let zero = s.fresh;
-    let p = masks(m, w, s, Colour(0));
-    let q = masks(m, w, s, Colour(1));
+    let b = quadrupled(s, Colour(0));
+    let d = quadrupled(s, Colour(1));
+    let p = masks(m, w, s, Colour(0), b, d);
+    let q = masks(m, w, s, Colour(1), b, d);
     let row0 = row(s, zero, Colour(0), Colour(0), p.x);
     let row1 = row(s, zero, Colour(0), Colour(1), p.y);
     let row2 = row(s, zero, Colour(1), Colour(0), q.x);
@@ -121,8 +126,10 @@ pub fn garble_gaxr(m: &[u32; 1024], w: &[u8; 176], s: Site) -> GarbledGate
     requires { ⌜ now w ≡ keyExpansion fixedKey ⌝ }
     ensures { λ r. ⌜ GarbledIs (gaxr dualKey) (site s) r ⌝ }
 {
-    let p = masks(m, w, s, Colour(0));
-    let q = masks(m, w, s, Colour(1));
+    let b = quadrupled(s, Colour(0));
+    let d = quadrupled(s, Colour(1));
+    let p = masks(m, w, s, Colour(0), b, d);
+    let q = masks(m, w, s, Colour(1), b, d);
     let zero = reduced_zero(s, p.x);
     let row0 = row(s, zero, Colour(0), Colour(1), p.y);
     let row1 = row(s, zero, Colour(1), Colour(0), q.x);

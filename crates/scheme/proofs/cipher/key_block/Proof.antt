@@ -1,13 +1,9 @@
 use borrow.Author.Needs.{needs}
-use Rattle.model.specs.Gax.{keyBlock}
 use Rattle.scheme.proofs.cipher.key_block.Statement.{statement}
 use Rattle.scheme.proofs.cipher.key_block.Tie as tie
 
 returns : tie.Need-returns
-unfolding keyBlock
 returns c = cc
 
 pub key-block-spec : {M : Type 1} → statement M
-key-block-spec =
-    tie.close
-    (tie.spec (λ c κs. search needs) (λ c κs. search needs) (λ c κs. search needs) (λ c κs. search needs) (λ c κs. search needs) returns)
+key-block-spec = tie.close (tie.spec (λ c κs. search needs) (λ c κs. search needs) (λ c κs. search needs) returns)

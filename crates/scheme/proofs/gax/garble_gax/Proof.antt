@@ -6,5 +6,5 @@ use Rattle.scheme.proofs.gax.garble_gax.Tie as tie
 pub garble-gax-spec : {M : Type 1} → statement M
 garble-gax-spec =
     tie.close
-    (tie.spec (λ c κs. search needs) (λ c κs. search needs) (λ c κs. search needs) (λ c κs. search needs) (λ c κs. search needs)
-    (λ c κs. search needs) (λ c. search gax-garbled))
+    (tie.spec (λ c κs. search needs) (λ c κs. search needs) (λ c κs. (search needs, (search needs, (search needs, (search needs, search needs))))) (λ c κs. (search needs, (search needs, (search needs, (search needs, search needs)))))
+    (λ c κs. search needs) (λ c κs. search needs) (λ c κs. search needs) (λ c κs. search needs) (λ c. search gax-garbled))

@@ -10,5 +10,5 @@ zero-mask c κs = c .before .masks .ensures .0
 pub garble-gaxr-spec : {M : Type 1} → statement M
 garble-gaxr-spec =
     tie.close
-    (tie.spec (λ c κs. search needs) (λ c κs. search needs) zero-mask (λ c κs. search needs) (λ c κs. search needs) (λ c κs. search needs)
-    (λ c κs. search needs) (λ c. search gaxr-garbled))
+    (tie.spec (λ c κs. search needs) (λ c κs. search needs) (λ c κs. (search needs, (search needs, (search needs, (search needs, search needs))))) (λ c κs. (search needs, (search needs, (search needs, (search needs, search needs)))))
+    zero-mask (λ c κs. search needs) (λ c κs. search needs) (λ c κs. search needs) (λ c κs. search needs) (λ c. search gaxr-garbled))
