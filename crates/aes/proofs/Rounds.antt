@@ -3,7 +3,7 @@ use mathlib.Core.Path.{_≡_, sym, ap, _∙_}
 use mathlib.Core.List.{List}
 use Prim.Native.Nat.{ℕ, suc, _+_, _-_, _<_, _≤_}
 use native.Mathlib.Omega.{arith}
-use Rattle.model.specs.Aes.{Block, subBytes, shiftRows, addRoundKey, aesRound, rounds, cipher}
+use Rattle.model.specs.Aes.{Block, subBytes, shiftRows, addRoundKey, aesRound, rounds, cipher, keyExpansion, fixedKey, aes, π}
 
 -- what holds of the state s before round r, when s₀ was the state before round 1: it is made from any block b that the first AddRoundKey takes
 -- to s₀
@@ -33,3 +33,8 @@ module _ {w : List ℕ} {s₀ : Block} where
   rounds-end {r} {s} {z} inv h e b k =
       let p : r - 1 ≡ 9 = omega (arith, inv .within) in
       e ∙ ap (λ (x : Block). addRoundKey w 10 (shiftRows (subBytes x))) (inv .state b k ∙ ap (λ (n : ℕ). rounds w n b) p)
+
+-- π is the cipher under the fixed key
+pub by-fixed-key : (w : List ℕ) (b z : Block) → z ≡ cipher w b → w ≡ keyExpansion fixedKey → z ≡ π b
+unfolding aes π
+by-fixed-key w b z e h = e ∙ ap (λ (k : List ℕ). cipher k b) h

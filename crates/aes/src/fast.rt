@@ -34,13 +34,18 @@ pub fn encrypt_pair(m: &[u32; 1024], w: &[u8; 176], x: Block, y: Block) -> Pair
     Pair { x: p, y: q }
 }
 
-// π by the tables; w is the fixed key's schedule.
+// π by the tables; w is the fixed key's schedule. The rounds stand here once more, rather than in a call: the evaluator's loop over
+// a charged gate's row then holds them.
 pub fn permute_fast(m: &[u32; 1024], w: &[u8; 176], b: Block) -> Block
     requires { ⌜ IsTTables (now m) ⌝ }
     requires { ⌜ now w ≡ keyExpansion fixedKey ⌝ }
     ensures { λ r. ⌜ r .bytes ≡ π (b .bytes) ⌝ }
 {
-    encrypt_fast(m, w, b)
+    let mut s = Words::start(w, b);
+    for r in 1..10 {
+        s = s.round(m, w, r);
+    }
+    s.last_round(m, w)
 }
 
 // π of two blocks.

@@ -21,7 +21,7 @@ use Rattle.model.specs.HalfGates.{hash, joined, half}
 use Rattle.model.specs.Garbling.{schemeOf}
 use Rattle.model.specs.Evaluation.{cut, openAt}
 use Rattle.model.proofs.Blocks.{cut-at}
-use Rattle.evaluate.specs.Gate.{RowRoom, RecordRoom}
+use Rattle.evaluate.specs.Gate.{RowRoom, RecordRoom, HeldRoom, HeldRow}
 
 -- row j of k rows that start at an index
 row-at : (k j first : ℕ) (s : List ℕ) → j < k → take 16 (drop (first + 16 * j) s) ≡ getD (cut k (drop first s)) j (block 0)
@@ -56,49 +56,73 @@ module _ (scheme : ℕ) where
   unfolding schemeOf
   is-half p q = simp (ne-eqb _ _ p, ne-eqb _ _ q)
 
+-- ---- held_row
+module _ (scheme first i : ℕ) (s : List ℕ) (x : Block) where
+  pub held-room : HeldRoom scheme first i s → scheme ≡ 1 → first + 16 * i + 16 ≤ length s
+  held-room r e = let l = r .all e in omega (arith, r .rows .number)
+
+  pub held-gax : HeldRoom scheme first i s → scheme ≡ 1 → x ≡ take 16 (drop (first + 16 * i) s) → HeldRow scheme first i s x
+  held-gax r e is-x = record { by-gax = λ _. is-x ∙ row-at 4 i first s (omega (arith, r .rows .number)); by-gaxr = λ n. absurd (n e) }
+
+  pub held-gaxr : (scheme ≡ 1 → ⊥) → x ≡ getD (block 0 ∷ cut 3 (drop first s)) i (block 0) → HeldRow scheme first i s x
+  held-gaxr n is-x = record { by-gax = λ e. absurd (n e); by-gaxr = λ _. is-x }
+
+pub ruleset held-cases = (held-room, held-gax, held-gaxr)
+
 -- ---- open_charged
 module _ (scheme at : ℕ) (s : List ℕ) (room : RecordRoom scheme at s) where
-  module _ (e : scheme ≡ 1) where
-    pub gax-room : (i : ℕ) → i ≤ 3 → at + 4 + 16 * i + 16 ≤ length s
-    unfolding gax
-    gax-room i h = let r = rw (is-gax scheme e) at (room .room) in omega arith
+  module _ (e : scheme ≡ 3) where
+    three : schemeOf scheme ≡ half hash
+    three = is-half scheme (λ p. omega arith) (λ p. omega arith)
 
-    pub gax-opens : (g i : ℕ) (a b row x : Block) → i ≡ 2 * colour a + colour b → i ≤ 3 → row ≡ take 16 (drop (at + 4 + 16 * i) s)
-        → x ≡ dualKey a b (4 * g + 2 * colour a + colour b) row
-        → x ≡ schemeOf scheme .opened g (cut (schemeOf scheme .stored) (drop 4 (drop at s))) a b
-    unfolding gax openRow
-    gax-opens g i a b row x is-i h is-row is-x =
-        rw (is-gax scheme e, drop-drop 4 at s, ← is-i, ← row-at 4 i (at + 4) s (omega arith), ← is-row) is-x
-
-  module _ (e : scheme ≡ 2) where
-    pub gaxr-room : (i : ℕ) → i ≤ 3 → RowRoom (at + 4) i s
-    unfolding gaxr
-    gaxr-room i h = let r = rw (is-gaxr scheme e) at (room .room) in record { number = h; room = omega arith }
-
-    pub gaxr-opens : (g i : ℕ) (a b row x : Block) → i ≡ 2 * colour a + colour b → row ≡ getD (block 0 ∷ cut 3 (drop (at + 4) s)) i (block 0)
-        → x ≡ dualKey a b (4 * g + 2 * colour a + colour b) row
-        → x ≡ schemeOf scheme .opened g (cut (schemeOf scheme .stored) (drop 4 (drop at s))) a b
-    unfolding gaxr openRow
-    gaxr-opens g i a b row x is-i is-row is-x = rw (is-gaxr scheme e, drop-drop 4 at s, ← is-i, ← is-row) is-x
-
-  module _ (p : scheme ≡ 1 → ⊥) (q : scheme ≡ 2 → ⊥) where
     pub half-room-g : at + 4 + 16 ≤ length s
     unfolding half
-    half-room-g = let r = rw (is-half scheme p q) at (room .room) in omega arith
+    half-room-g = let r = rw three at (room .room) in omega arith
 
     pub half-room-e : at + 4 + 16 + 16 ≤ length s
     unfolding half
-    half-room-e = let r = rw (is-half scheme p q) at (room .room) in omega arith
+    half-room-e = let r = rw three at (room .room) in omega arith
 
     pub half-opens : (g : ℕ) (a b rg re x : Block) → rg ≡ take 16 (drop (at + 4) s) → re ≡ take 16 (drop (at + 4 + 16) s)
         → x ≡ joined hash g rg re a b
         → x ≡ schemeOf scheme .opened g (cut (schemeOf scheme .stored) (drop 4 (drop at s))) a b
     unfolding half cut
-    half-opens g a b rg re x is-g is-e is-x = rw (is-half scheme p q, drop-drop 4 at s, drop-drop 16 (at + 4) s, ← is-g, ← is-e) is-x
+    half-opens g a b rg re x is-g is-e is-x = rw (three, drop-drop 4 at s, drop-drop 16 (at + 4) s, ← is-g, ← is-e) is-x
 
-pub ruleset charged-rooms = (gax-room, gaxr-room, half-room-g, half-room-e)
+  module _ (n : scheme ≡ 3 → ⊥) where
+    one : scheme < 2 → scheme ≡ 1
+    one l = omega (arith, room .low)
 
-pub ruleset charged-opens = (gax-opens, gaxr-opens, half-opens)
+    two : (scheme < 2 → ⊥) → scheme ≡ 2
+    two l = omega (arith, room .high)
+
+    not-one : (scheme < 2 → ⊥) → scheme ≡ 1 → ⊥
+    not-one l e = l (omega arith)
+
+    pub rows-room : (i : ℕ) → i ≤ 3 → HeldRoom scheme (at + 4) i s
+    unfolding gax gaxr
+    rows-room i h = record { rows = record { number = h; room = short (decLt scheme 2) }; all = long }
+      where
+        long : scheme ≡ 1 → at + 4 + 64 ≤ length s
+        long e = let r = rw (is-gax scheme e) at (room .room) in omega arith
+
+        short : Dec (scheme < 2) → at + 4 + 48 ≤ length s
+        short (Dec.yes l) = let r = long (one l) in omega arith
+        short (Dec.no l) = let r = rw (is-gaxr scheme (two l)) at (room .room) in omega arith
+
+    pub rows-open : (g i : ℕ) (a b row x : Block) → i ≡ 2 * colour a + colour b → HeldRow scheme (at + 4) i s row
+        → x ≡ dualKey a b (4 * g + 2 * colour a + colour b) row
+        → x ≡ schemeOf scheme .opened g (cut (schemeOf scheme .stored) (drop 4 (drop at s))) a b
+    unfolding gax gaxr openRow
+    rows-open g i a b row x is-i held is-x = go (decLt scheme 2)
+      where
+        go : Dec (scheme < 2) → x ≡ schemeOf scheme .opened g (cut (schemeOf scheme .stored) (drop 4 (drop at s))) a b
+        go (Dec.yes l) = rw (is-gax scheme (one l), drop-drop 4 at s, ← is-i, ← held .by-gax (one l)) is-x
+        go (Dec.no l) = rw (is-gaxr scheme (two l), drop-drop 4 at s, ← is-i, ← held .by-gaxr (not-one l)) is-x
+
+pub ruleset charged-rooms = (half-room-g, half-room-e, rows-room)
+
+pub ruleset charged-opens = (half-opens, rows-open)
 
 -- ---- a free gate's token
 

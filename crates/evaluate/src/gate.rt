@@ -7,7 +7,7 @@ ghost use Rattle.aes.specs.Tables.{IsTTables};
 ghost use Rattle.model.specs.Aes.{keyExpansion, fixedKey, block};
 ghost use Rattle.model.specs.Garbling.{schemeOf};
 ghost use Rattle.model.specs.Evaluation.{cut};
-ghost use Rattle.evaluate.specs.Gate.{RowRoom, RecordRoom};
+ghost use Rattle.evaluate.specs.Gate.{RowRoom, RecordRoom, HeldRoom, HeldRow};
 use block::Block;
 use block::load;
 use model::Wire;
@@ -27,6 +27,17 @@ fn reduced_row(material: &[u8], first: usize, i: usize) -> Block
     }
 }
 
+// Row i of schemes 1 and 2, whose rows start at an index.
+fn held_row(scheme: u8, material: &[u8], first: usize, i: usize) -> Block
+    requires { ⌜ HeldRoom scheme first i (now material) ⌝ }
+    ensures { λ r. ⌜ HeldRow scheme first i (now (material .entry)) (r .bytes) ⌝ }
+{
+    if scheme == 1 {
+        return load(material, first + 16 * i);
+    }
+    reduced_row(material, first, i)
+}
+
 // The token of charged gate g, whose record stands at an index. Schemes 1 and 2 load the one row that the colours point at.
 pub fn open_charged(
     t: &[u32; 1024],
@@ -44,17 +55,11 @@ pub fn open_charged(
     ensures { λ r. ⌜ r .bytes ≡ schemeOf scheme .opened (g .0) (cut (schemeOf scheme .stored) (drop 4 (drop at (now (material .entry))))) (a .bytes) (b .bytes) ⌝ }
 {
     let first = at + 4;
-    match scheme {
-        1 => open_row(t, w, g, a, b, load(material, first + 16 * row_index(a, b))),
-        2 => open_row(t, w, g, a, b, reduced_row(material, first, row_index(a, b))),
-        _ => open_half(
-            t,
-            w,
-            g,
-            load(material, first),
-            load(material, first + 16),
-            a,
-            b,
-        ),
+    if scheme == 3 {
+        let rg = load(material, first);
+        let re = load(material, first + 16);
+        return open_half(t, w, g, rg, re, a, b);
     }
+    let row = held_row(scheme, material, first, row_index(a, b));
+    open_row(t, w, g, a, b, row)
 }

@@ -1,12 +1,9 @@
 use borrow.Author.Needs.{needs}
-use Rattle.evaluate.proofs.GateLaws.{charged-rooms, charged-opens}
+use Rattle.evaluate.proofs.GateLaws.{charged-opens, charged-rooms}
 use Rattle.evaluate.proofs.gate.open_charged.Statement.{statement}
 use Rattle.evaluate.proofs.gate.open_charged.Tie as tie
 
 pub open-charged-spec : {M : Type 1} → statement M
 open-charged-spec =
     tie.close
-    (tie.spec (λ c. search needs) (λ c κs. search needs) (λ c. search needs) (λ c. search needs) (λ c κs. search charged-rooms)
-    (λ c κs. search needs) (λ c κs. search needs) (λ c κs. search charged-rooms) (λ c κs. search needs)
-    (λ c κs. search charged-rooms) (λ c. search needs) (λ c κs. search charged-rooms) (λ c κs. search needs)
-    (λ c. search charged-opens) (λ c. search charged-opens) (λ c. search charged-opens))
+    (tie.spec (λ c. search needs) (λ c κs. search charged-rooms) (λ c. search needs) (λ c κs. search charged-rooms) (λ c κs. search needs) (λ c. search charged-opens) (λ c κs. search needs) (λ c κs. search charged-rooms) (λ c κs. search needs) (λ c. search charged-opens))
