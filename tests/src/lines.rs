@@ -1,4 +1,4 @@
-//! Cases as the test program `vectors` reads them: a line each, fields in hexadecimal.
+//! Cases as the test programs `vectors` and `garblings` read them: a line each, fields in hexadecimal.
 
 use crate::call::{Call, Operation, Outcome};
 use crate::circuit::Gate;
@@ -33,14 +33,14 @@ pub fn answer(answer: &Result<Vec<u64>, Refused>) -> Vec<u8> {
 
 /// Some bytes, and after them the lengths of the output buffers.
 fn setting(first: &[u8], call: &Call) -> Vec<u8> {
-    // What `vectors` has room for.
+    // What the program has room for.
     let room = match call.operation {
         Operation::Garble => 1 << 16,
         _ => 1 << 17,
     };
     let mut bytes = first.to_vec();
     for &length in &call.lens {
-        assert!(length <= room, "more room than `vectors` has");
+        assert!(length <= room, "more room than the program has");
         bytes.extend(word(length as u64));
     }
     bytes

@@ -1,5 +1,5 @@
-//! The files of cases that the test program `vectors` reads: those of the third reading of 01, and
-//! those made here. The same files come out of every run.
+//! The files of cases that the test programs `vectors` and `garblings` read: those of the third
+//! reading of 01, and those made here. The same files come out of every run.
 
 use crate::block::Colour;
 use crate::call::{Call, Operation};
@@ -15,10 +15,20 @@ use crate::random::Random;
 /// A file of cases, a line each.
 #[derive(Clone, Debug)]
 pub struct File {
-    /// Its name, which `vectors` prints.
+    /// Its name, which the program prints.
     pub name: &'static str,
     /// Its lines.
     pub text: String,
+}
+
+impl File {
+    /// The test program that reads it: garble has one of its own.
+    pub fn program(&self) -> &'static str {
+        match self.name.starts_with("garble") {
+            true => "garblings",
+            false => "vectors",
+        }
+    }
 }
 
 /// All files made here.

@@ -1,16 +1,16 @@
-//! The files of cases of the test program `vectors` are those made here, and it is held to all of
-//! them.
+//! The files of cases of the test programs `vectors` and `garblings` are those made here, and they
+//! are held to all of them.
 
 use std::fs;
 
 use second::vectors::files;
 
-const PROGRAM: &str = concat!(env!("CARGO_MANIFEST_DIR"), "/../crates/vectors");
+const CRATES: &str = concat!(env!("CARGO_MANIFEST_DIR"), "/../crates");
 
 #[test]
 fn files_are_those_made_here() {
     for file in files() {
-        let path = format!("{PROGRAM}/data/{}", file.name);
+        let path = format!("{CRATES}/{}/data/{}", file.program(), file.name);
         let text = fs::read_to_string(&path).expect("a file of cases");
         assert!(text == file.text, "{path}: run vector_data");
     }
@@ -18,8 +18,9 @@ fn files_are_those_made_here() {
 
 #[test]
 fn every_case_is_counted() {
-    let stdout = fs::read_to_string(format!("{PROGRAM}/stdout")).expect("stdout");
     for file in files() {
+        let stdout = format!("{CRATES}/{}/stdout", file.program());
+        let stdout = fs::read_to_string(stdout).expect("stdout");
         let cases = file.text.lines().count();
         let due = format!("{}: {cases} of {cases} agree", file.name);
         assert!(stdout.lines().any(|line| line == due), "no line {due:?}");

@@ -1,16 +1,15 @@
 // Whether a case agrees with the proved functions: its arguments, and what must come of them, are the fields of its line.
-use crate::answer::done_sizes;
-use crate::answer::ran;
-use crate::answer::refused;
 use crate::chained::chain_run;
-use crate::garbler::garble_run;
-use crate::garbler::pick_run;
-use crate::room;
 use crate::single::single_run;
 use aes::encrypt;
 use aes::expand_key;
 use aes::s_box;
 use block::Block;
+use buffer::read16;
+use cases::answer::done_sizes;
+use cases::answer::ran;
+use cases::answer::refused;
+use cases::room;
 use check::same;
 use model::Checked;
 
@@ -82,7 +81,24 @@ fn plain_run(circuit: &[u8], values: &[u8], before: &[u8], answer: &[u8], after:
     plain_leaves(circuit, values, before, answer, after, &mut wires[..len])
 }
 
-// By group: 1 encryption, 2 key expansion, 3 doubling, 4 check, 5 plain, 6 garble, 7 encode, 8 pick, 10 evaluate,
+// Zero list, one list, wire and bit (2 bytes and 1), the answer, and the part: the token, or no byte.
+pub fn pick_run<'a>(
+    zeros: &'a [u8],
+    ones: &'a [u8],
+    asked: &[u8],
+    answer: &[u8],
+    part: &[u8],
+) -> bool {
+    if asked.len() != 3 {
+        return false;
+    }
+    let wire = read16(asked, 0);
+    let bit = asked[2];
+    let agreed = ran(garble::pick_check(zeros, ones, wire, bit), answer);
+    agreed & same(garble::pick(zeros, ones, wire, bit), part)
+}
+
+// By group: 1 encryption, 2 key expansion, 3 doubling, 4 check, 5 plain, 7 encode, 8 pick, 10 evaluate,
 // 11 decode, 12 the chain, 13 evaluate's list form.
 pub fn agrees<'a>(
     group: u8,
@@ -100,7 +116,6 @@ pub fn agrees<'a>(
         3 => doubling(a, b, c),
         4 => checking(a, b),
         5 => plain_run(a, b, c, d, e),
-        6 => garble_run(a, b, c, d, e, f, g),
         7 => single_run(group, a, b, c, d, e, f, g),
         8 => pick_run(a, b, c, d, e),
         12 => chain_run(a, b, c, d, e, f, g),

@@ -2,10 +2,10 @@
 // buffers is the case's fill; after it the last two, of the wires' tokens and the outputs' bits, must hold the case's bytes.
 ghost use mathlib.Core.Path.{_≡_};
 ghost use lib.ListN.{length};
-use crate::answer::done;
-use crate::answer::refused_by;
-use crate::answer::room_at;
-use crate::room;
+use cases::answer::done;
+use cases::answer::refused_by;
+use cases::answer::room_at;
+use cases::room;
 use chain::Chained;
 use check::same;
 

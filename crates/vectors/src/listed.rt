@@ -2,8 +2,8 @@
 ghost use mathlib.Core.Path.{_≡_};
 ghost use Prim.Native.Nat.{_+_, _<_};
 ghost use lib.ListN.{length};
-use crate::answer::evaluated;
 use buffer::read16;
+use cases::answer::evaluated;
 use model::Evaluated;
 use model::Gate;
 

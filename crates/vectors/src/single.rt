@@ -2,12 +2,12 @@
 // after it the buffer must hold the case's bytes, or after a refusal still nothing but the fill.
 // By group: 7 encode, on circuit, values, zero list and one list; 10 evaluate and 11 decode, on circuit, tokens and material;
 // 13 evaluate's list form, on the list, tokens and material. A group with three arguments does not look at d.
-use crate::answer::evaluated;
-use crate::answer::ran;
-use crate::answer::room_at;
-use crate::fill::left;
 use crate::listed::list_answers;
-use crate::room;
+use cases::answer::evaluated;
+use cases::answer::ran;
+use cases::answer::room_at;
+use cases::fill::left;
+use cases::room;
 
 // Whether the operation answers as the case does.
 fn answers(

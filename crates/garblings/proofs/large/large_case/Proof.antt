@@ -1,0 +1,13 @@
+use borrow.Author.Needs.{needs}
+use lib.Seq.{length-take-le}
+use mathlib.Core.Path.{sym}
+use native.Mathlib.Omega.{arith}
+use Rattle.garblings.proofs.large.large_case.Statement.{statement}
+use Rattle.garblings.proofs.large.large_case.Tie as tie
+
+pub large-case-spec : {M : Type 1} → statement M
+large-case-spec =
+    tie.close
+    (tie.spec (λ c κs. search needs) (λ c. search needs) (λ c. search needs) (λ c. search needs)
+    (λ c. search needs) (λ c κs. search needs) (λ c. search needs) (λ c. sym (length-take-le _ _ (omega arith)))
+    (λ c κs. search needs) (λ c. search needs) (λ c. search needs))

@@ -1,0 +1,14 @@
+use borrow.Author.Needs.{needs}
+use lib.Seq.{length-take-le}
+use mathlib.Core.Path.{sym}
+use native.Mathlib.Omega.{arith}
+use Rattle.garblings.proofs.large.wrote.Statement.{statement}
+use Rattle.garblings.proofs.large.wrote.Tie as tie
+
+pub wrote-spec : {M : Type 1} → statement M
+wrote-spec =
+    tie.close
+    (tie.spec (λ c. search needs) (λ c. sym (length-take-le _ _ (omega arith))) (λ c κs. search needs)
+    (λ c κs. search needs) (λ c. search needs)
+    (λ c. search needs) (λ c κs. search needs) (λ c. search needs)
+    (λ c. search needs) (λ c. search needs) (λ c κs. search needs) (λ c. search needs))

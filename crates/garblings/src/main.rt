@@ -1,0 +1,26 @@
+// The test program of garble: garblings made by others against the proved function. Each file of data/ has a case a line, and
+// each prints how many of its cases agree.
+use crate::text::run;
+use cases::file::print_tally;
+use cases::file::read_file;
+use cases::room;
+
+mod fingerprint;
+mod garbler;
+mod large;
+mod rule;
+mod text;
+
+// The cases of one file, each of them large or none.
+fn run_file(large: bool, path: &[u8]) {
+    let mut text = room::most(0);
+    let len = read_file(path, &mut text);
+    print_tally(run(large, &text[..len]));
+}
+
+// Cases of a third reading of 01, and those of the second implementation.
+fn main() {
+    run_file(false, b"garble");
+    run_file(false, b"garble-generated");
+    run_file(true, b"garble-large");
+}

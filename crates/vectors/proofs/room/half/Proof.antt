@@ -1,6 +1,0 @@
-use Rattle.vectors.proofs.Copies.{copies}
-use Rattle.vectors.proofs.room.half.Statement.{statement}
-use Rattle.vectors.proofs.room.half.Tie as tie
-
-pub half-spec : {M : Type 1} → statement M
-half-spec = tie.close (tie.spec (λ c. copies 524288 0))
