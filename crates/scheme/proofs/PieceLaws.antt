@@ -2,11 +2,12 @@
 use Prim.Native.Nat.{ℕ, _+_, _*_}
 use mathlib.Core.Path.{_≡_, sym, ap}
 use Rattle.model.specs.Aes.{Block, _⊕_, times, block, π, double, quadruple}
-use Rattle.model.specs.Tokens.{colour}
+use Rattle.model.specs.Circuit.{value}
+use Rattle.model.specs.Tokens.{colour, freeZero, freeToken}
 use Rattle.model.specs.Scheme.{Site}
 use Rattle.model.specs.Gax.{keyBlock, carried, tokenOf, valueAt, sealed, rowAt, dualKey}
 use Rattle.model.specs.Gaxr.{reducedZero}
-use Rattle.model.specs.HalfGates.{hash, joined}
+use Rattle.model.specs.HalfGates.{hash, hashBlock, joined}
 use Rattle.scheme.specs.Garbled.{maskOf}
 use Rattle.model.proofs.Xor.{⊕-assoc, ⊕-zero, ⊕-length}
 
@@ -14,6 +15,34 @@ use Rattle.model.proofs.Xor.{⊕-assoc, ⊕-zero, ⊕-length}
 pub token-is : (r x : Block) (c v : ℕ) (y a : Block) → a ≡ x ⊕ y → y ≡ times v r → v ≡ carried x c → a ≡ tokenOf r x c
 unfolding tokenOf
 token-is r x c v y a is-a is-y is-v = rw (is-a, is-y, is-v)
+
+-- a gate's value at the colours c and d, which carry u and v
+pub value-is : (s : Site) (c d u v x : ℕ) → x ≡ value (s .code) u v → u ≡ carried (s .Xa) c → v ≡ carried (s .Xb) d → x ≡ valueAt s c d
+unfolding valueAt
+value-is s c d u v x is-x is-u is-v = rw (is-x, is-u, is-v)
+
+-- K, from 2A, 4B and T: a and b are the first two
+pub key-is : (a b : Block) (t : ℕ) (n z k : Block) → k ≡ a ⊕ z → z ≡ b ⊕ n → n ≡ block t → k ≡ a ⊕ b ⊕ block t
+key-is a b t n z k is-k is-z is-n = rw (is-k, is-z, is-n)
+
+-- E of z: p is π(k), where x and y are 2A and 4B
+pub dual-is : (a b : Block) (t : ℕ) (z x y k p u r : Block) → r ≡ p ⊕ u → p ≡ π k → u ≡ k ⊕ z → k ≡ x ⊕ y ⊕ block t → x ≡ double a → y ≡ quadruple b
+    → r ≡ dualKey a b t z
+unfolding dualKey keyBlock
+dual-is a b t z x y k p u r is-r is-p is-u is-k is-x is-y = rw (is-r, is-p, is-u, is-k, is-x, is-y)
+
+-- what E exclusive-ors to a token
+pub mask-of : (a b : Block) (t : ℕ) (k p x : Block) → k ≡ a ⊕ b ⊕ block t → p ≡ π k → x ≡ p ⊕ k → x ≡ maskOf (a ⊕ b ⊕ block t)
+mask-of a b t k p x is-k is-p is-x = rw (is-x, is-p, is-k)
+
+-- four times a token
+pub four-times : (x y z : Block) → y ≡ quadruple x → x ≡ z → y ≡ quadruple z
+four-times x y z is-y is-x = rw (is-y, is-x)
+
+-- E by the colours c and d of the tokens held
+pub opened-is : (a b row x : Block) (g c d t : ℕ) → x ≡ dualKey a b t row → t ≡ 4 * g + 2 * c + d → c ≡ colour a → d ≡ colour b
+    → x ≡ dualKey a b (4 * g + 2 * colour a + colour b) row
+opened-is a b row x g c d t is-x is-t is-c is-d = rw (is-x, is-t, is-c, is-d)
 
 -- E of block 0 under the tokens of colours c and d, from twice the one, a, and four times the other, b
 pub mask-is : (s : Site) (c d : ℕ) (a b x : Block) (t : ℕ) → x ≡ maskOf (a ⊕ b ⊕ block t) → a ≡ double (tokenOf (s .R) (s .Xa) c)
@@ -44,8 +73,42 @@ pub reduced-is : (s : Site) (mask : Block) (v : ℕ) (y a : Block) → a ≡ mas
 unfolding reducedZero
 reduced-is s mask v y a is-a is-mask is-y is-v = rw (is-a, is-mask, is-y, is-v)
 
+-- 2x ⊕ i
+pub hash-block-is : (x : Block) (i : ℕ) (y n k : Block) → k ≡ y ⊕ n → y ≡ double x → n ≡ block i → k ≡ hashBlock x i
+unfolding hashBlock
+hash-block-is x i y n k is-k is-y is-n = rw (is-k, is-y, is-n)
+
+-- H: p is π(k)
+pub hash-is : (x : Block) (i : ℕ) (k p h : Block) → k ≡ hashBlock x i → p ≡ π k → h ≡ p ⊕ k → h ≡ hash x i
+unfolding hash
+hash-is x i k p h is-k is-p is-h = rw (is-h, is-p, is-k)
+
+-- x and u times R
+pub offset-is : (x r y a : Block) (u : ℕ) → a ≡ x ⊕ y → y ≡ times u r → a ≡ x ⊕ times u r
+offset-is x r y a u is-a is-y = rw (is-a, is-y)
+
+-- a half-gate's row, from the hashes of x and of x ⊕ R
+pub half-row-is : (r x y z hx hy v row : Block) (i : ℕ) → row ≡ hx ⊕ v → hx ≡ hash x i → v ≡ hy ⊕ z → hy ≡ hash y i → y ≡ x ⊕ r
+    → row ≡ hash x i ⊕ hash (x ⊕ r) i ⊕ z
+half-row-is r x y z hx hy v row i is-row is-hx is-v is-hy is-y = rw (is-row, is-hx, is-v, is-hy, is-y)
+
+-- the exclusive or of the evaluator's four parts, s and t being the colours of A and B
+pub join-is : (ha hb G E A B x u v w y z : Block) (s t : ℕ) → x ≡ ha ⊕ u → u ≡ v ⊕ w → v ≡ times s G → s ≡ colour A → w ≡ hb ⊕ y
+    → y ≡ times t z → z ≡ E ⊕ A → t ≡ colour B → x ≡ ha ⊕ times (colour A) G ⊕ hb ⊕ times (colour B) (E ⊕ A)
+join-is ha hb G E A B x u v w y z s t is-x is-u is-v is-s is-w is-y is-z is-t = rw (is-x, is-u, is-v, is-s, is-w, is-y, is-z, is-t)
+
 -- scheme 3's token, from the two hashes
 pub joined-is : (g : ℕ) (G E A B ha hb x : Block) → x ≡ ha ⊕ times (colour A) G ⊕ hb ⊕ times (colour B) (E ⊕ A)
     → ha ≡ hash A (2 * g) → hb ≡ hash B (2 * g + 1) → x ≡ joined hash g G E A B
 unfolding joined
 joined-is g G E A B ha hb x is-x is-ha is-hb = rw (is-x, is-ha, is-hb)
+
+-- free gates, from their operands' parts
+pub free-zero-is : (p q c : ℕ) (r xa xb x u v w y : Block) → x ≡ u ⊕ v → u ≡ times p xa → v ≡ w ⊕ y → w ≡ times q xb → y ≡ times c r
+    → x ≡ freeZero p q c r xa xb
+unfolding freeZero
+free-zero-is p q c r xa xb x u v w y is-x is-u is-v is-w is-y = rw (is-x, is-u, is-v, is-w, is-y)
+
+pub free-token-is : (p q : ℕ) (a b x u v : Block) → x ≡ u ⊕ v → u ≡ times p a → v ≡ times q b → x ≡ freeToken p q a b
+unfolding freeToken
+free-token-is p q a b x u v is-x is-u is-v = rw (is-x, is-u, is-v)

@@ -1,11 +1,16 @@
 use borrow.Author.Needs.{needs}
-use Rattle.model.specs.HalfGates.{hash}
+use Rattle.scheme.proofs.PieceLaws.{hash-is}
 use Rattle.scheme.proofs.cipher.hash_pair.Statement.{statement}
 use Rattle.scheme.proofs.cipher.hash_pair.Tie as tie
 
 returns : tie.Need-returns
-unfolding hash
-returns c = (cc, cc)
+returns c =
+    let p = c .before .before in
+    let l = p .before in
+    let k = l .before in (
+      hash-is _ _ _ _ _ (k .hash-block .ensures) (p .permute-pair .ensures .0) (c .before .xor .ensures),
+      hash-is _ _ _ _ _ (l .hash-block2 .ensures) (p .permute-pair .ensures .1) (c .xor2 .ensures),
+    )
 
 pub hash-pair-spec : {M : Type 1} → statement M
 hash-pair-spec =

@@ -1,11 +1,10 @@
 use borrow.Author.Needs.{needs}
-use Rattle.model.specs.Tokens.{freeZero}
+use Rattle.scheme.proofs.PieceLaws.{free-zero-is}
 use Rattle.scheme.proofs.free.free_zero.Statement.{statement}
 use Rattle.scheme.proofs.free.free_zero.Tie as tie
 
 returns : tie.Need-returns
-unfolding freeZero
-returns c = cc
+returns c = search free-zero-is
 
 pub free-zero-spec : {M : Type 1} → statement M
 free-zero-spec =
