@@ -7,22 +7,23 @@ use crate::garbler::garble_run;
 use crate::large::large_run;
 use cases::file::Tally;
 use cases::file::one_if;
-use cases::line::Cuts;
 use cases::line::next_line;
 use cases::line::read_fields;
 use cases::room;
 
-// The case whose fields stand in a buffer.
-fn run_case(fields: &[u8], k: Cuts) -> bool
-    requires { ⌜ CutsFit (now fields) (k .a) (k .b) (k .c) (k .d) (k .e) (k .f) (k .g) ⌝ }
+// The case whose fields stand in a buffer, where they end at the indices given.
+fn run_case(
+    fields: &[u8],
+    a: usize,
+    b: usize,
+    c: usize,
+    d: usize,
+    e: usize,
+    f: usize,
+    g: usize,
+) -> bool
+    requires { ⌜ CutsFit (now fields) a b c d e f g ⌝ }
 {
-    let a = k.a;
-    let b = k.b;
-    let c = k.c;
-    let d = k.d;
-    let e = k.e;
-    let f = k.f;
-    let g = k.g;
     garble_run(
         &fields[..a],
         &fields[a..b],
@@ -42,7 +43,7 @@ fn run_line(large: bool, text: &[u8], at: usize, fields: &mut [u8]) -> bool
     if large {
         return large_run(k.g, fields);
     }
-    run_case(fields, k)
+    run_case(fields, k.a, k.b, k.c, k.d, k.e, k.f, k.g)
 }
 
 // All cases of a text, each decoded to the same buffer.

@@ -5,22 +5,24 @@ ghost use Rattle.cases.specs.Fields.{CutsFit};
 use crate::agree::agrees;
 use cases::file::Tally;
 use cases::file::one_if;
-use cases::line::Cuts;
 use cases::line::next_line;
 use cases::line::read_fields;
 use cases::room;
 
-// The case whose fields stand in a buffer.
-fn run_case(group: u8, fields: &[u8], k: Cuts) -> bool
-    requires { ⌜ CutsFit (now fields) (k .a) (k .b) (k .c) (k .d) (k .e) (k .f) (k .g) ⌝ }
+// The case whose fields stand in a buffer, where they end at the indices given.
+fn run_case(
+    group: u8,
+    fields: &[u8],
+    a: usize,
+    b: usize,
+    c: usize,
+    d: usize,
+    e: usize,
+    f: usize,
+    g: usize,
+) -> bool
+    requires { ⌜ CutsFit (now fields) a b c d e f g ⌝ }
 {
-    let a = k.a;
-    let b = k.b;
-    let c = k.c;
-    let d = k.d;
-    let e = k.e;
-    let f = k.f;
-    let g = k.g;
     agrees(
         group,
         &fields[..a],
@@ -38,7 +40,7 @@ fn run_line(group: u8, text: &[u8], at: usize, fields: &mut [u8]) -> bool
     requires { ⌜ at ≤ length (now text) ⌝ }
 {
     let k = read_fields(text, at, fields);
-    run_case(group, fields, k)
+    run_case(group, fields, k.a, k.b, k.c, k.d, k.e, k.f, k.g)
 }
 
 // All cases of a text, each decoded to the same buffer.
