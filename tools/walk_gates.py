@@ -39,7 +39,7 @@ AT = ['walk'] + HELD + [x for x in LOCALS if x != 'walk'] + ['dies ' + x for x i
 # For each pass: the function that its loop calls, what it is handed before and after the walk and the gate, whether the buffer is
 # among it, what it asks, and what it says of the walk that it hands back.
 PASSES = [
-    dict(call='try_gate', as_='try', before=[], after=['tokens', 'material'], buffer=False, asks='Few (s .k) (s .z) (s .k)',
+    dict(call='try_gate', as_='try', before=[], after=['tokens', 'material'], buffer=False, asks='Tries s',
          given='G.asks-0 n m gs (now xi) (now xm) (now xo) n-fits m-fits (suc left) s d (f .0) at-pass',
          says='TryLeads (now xi) (now xm) s (g-at s) r'),
     dict(call='check_record', as_='check', before=[], after=['tokens', 'material'], buffer=True,

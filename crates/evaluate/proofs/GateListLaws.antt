@@ -1,5 +1,5 @@
 -- Evaluation over a list of gate records: a law for each return of the functions of src/list.rt. Assumes nothing.
-use Prim.Native.Nat.{ℕ, zero, suc, _+_, _*_, _≤_, _<_, _^_}
+use Prim.Native.Nat.{ℕ, zero, suc, _+_, _*_, _≤_, _<_}
 use native.Mathlib.Numerals.{add-one}
 use native.Mathlib.Decide.{decLt}
 use native.Mathlib.Omega.{arith}
@@ -35,19 +35,16 @@ use Rattle.circuit.specs.Answers as Read
 use Rattle.circuit.specs.Answers.{gateOf}
 use Rattle.material.specs.declared.records.Cursor.{Cursor}
 use Rattle.material.specs.declared.records.Step.{Step}
-use Rattle.material.specs.declared.reader.Standing.{Standing}
-use Rattle.material.specs.Reader.{standingAt}
 use Rattle.material.specs.Answers.{Accepted, Filed, sizesVerdict, stepOf, passAnswer, gateAnswer, recordsVerdict, lastAt}
 use Rattle.material.proofs.SizeLaws.{limits, is-n, is-m, is-q}
-use Rattle.material.proofs.RowLaws.{row-first, row-room, FileHolds, file-holds}
-use Rattle.material.proofs.ReaderLaws.{bytes-counted, scheme-inside, past-fits, row-record}
+use Rattle.material.proofs.RowLaws.{row-first}
 use Rattle.material.proofs.RecordLaws.{Reading, at-turn, gate-passed, turn-next, turn-fault, one-charged, answer-free, answer-wrong, answer-right}
 use Rattle.material.proofs.MaterialLaws.{by-record, by-last, material-file, filed}
 use Rattle.evaluate.specs.declared.list.Walk.{Walk}
 use Rattle.evaluate.specs.Answers.{restVerdict}
 use Rattle.evaluate.specs.Gate.{RecordRoom}
 use Rattle.evaluate.specs.Walk.{TokenStart, TokenIs, FreeTokenIs, WiresStart, Walking}
-use Rattle.evaluate.specs.GateList.{Ended, GoesTo, Begun, Onward, GateIs, RowsRight, Guessed, Tried, Checked, Written, Stands, TriedLeads, TryLeads, CheckedLeads, CheckLeads, WriteLeads, Few, RowPassed, Checks, Writes}
+use Rattle.evaluate.specs.GateList.{Ended, GoesTo, Begun, Onward, GateIs, RowsRight, Guessed, Tried, Checked, Written, Stands, TriedLeads, TryLeads, CheckedLeads, CheckLeads, WriteLeads, Few, RowPassed, Tries, Checks, Writes}
 use Rattle.evaluate.proofs.ReadyLaws.{evaluate-verdict}
 use Rattle.evaluate.proofs.WalkLaws.{past-is, charged-room, charge-cases, walk-start, walk-turn, walk-end, wires-walk, wires-done}
 use Rattle.evaluate.proofs.EvaluateLaws.{evaluate-start, evaluate-done}
@@ -189,28 +186,25 @@ module _ (c : List ℕ) (z : Sizes) (s : List ℕ) (known : Filed c z s) (k : �
   row-fault : (f : Refusal) → u ≡ Step.Fault f → verdictOf f ≡ recordsVerdict c s
   row-fault f e = turn-fault c z s known k here reading more u at-gate f e
 
--- ---- row_passed: what the reader found, and the rows as they were counted
-
-pub look-fits : (s : List ℕ) (at : ℕ) (t : Standing) → t ≡ standingAt s at → (w : Wire) → t ≡ Standing.Gate w → (rows : ℕ) → rows ≡ rowsStored (getD s 2 0)
-    → length s < 2 ^ 64 → at + 4 + 16 * rows < 18446744073709551616
-look-fits s at t is-t w e rows is-rows h =
-    let fits : Fits w64 (at + (4 + 16 * rows)) = past-fits s at t is-t w e (4 + 16 * rows) (bytes-counted s rows is-rows) h in omega arith
+-- ---- row_passed
 
 module _ (s : List ℕ) (at x due : ℕ) where
   pub passed-free : x ≡ 0 → RowPassed s at x due at
-  passed-free e = record { free = λ _. refl; found = λ n. absurd (n e); gone = λ n. absurd (n e) }
+  passed-free e = record { free = λ _. refl; found = λ n. absurd (n e); gone = λ n. absurd (n e); near = omega arith }
 
   module _ (n : x ≡ 0 → ⊥) where
     pub passed-not : RowPassed s at x due 0
-    passed-not = record { free = λ e. absurd (n e); found = λ _ z. absurd (z refl); gone = λ _ z. absurd (z refl) }
+    passed-not = record { free = λ e. absurd (n e); found = λ _ z. absurd (z refl); gone = λ _ z. absurd (z refl); near = omega arith }
 
-    pub passed-right : (t : Standing) → t ≡ standingAt s at → (w : Wire) → t ≡ Standing.Gate w → (rows : ℕ) → rows ≡ rowsStored (getD s 2 0) → w .0 ≡ due
+    -- whether its record is there, as it was read, and the rows as they were counted
+    pub passed-right : (b : Bool) → b ≡ rowRecordAt s at due → b ≡ true → (rows : ℕ) → rows ≡ rowsStored (getD s 2 0) → rows ≤ 4
         → (there : ℕ) → there ≡ at + 4 + 16 * rows → RowPassed s at x due there
-    passed-right t is-t w e rows is-rows i there is-there =
-        let own : w ≡ record { 0 = due } = ap (λ (y : ℕ). record { 0 = y }) i in
-        record { free = λ f. absurd (n f); found = λ _ _. sym is-t ∙ e ∙ ap Standing.Gate own; gone = λ _ _. rw (← is-rows) is-there }
-
-pub ruleset passed-asks = (scheme-inside, look-fits)
+    passed-right b is-b e rows is-rows few there is-there = record {
+      free = λ f. absurd (n f);
+      found = λ _ _. sym is-b ∙ e;
+      gone = λ _ _. rw (← is-rows) is-there;
+      near = omega arith;
+    }
 
 pub ruleset passed-cases = (passed-free, passed-not, passed-right)
 
@@ -234,10 +228,6 @@ no-row s due a b =
     let y = eqb-true (getD s 1 0) 0x54 (and-both (eqb (getD s 0 0) 0x47) (eqb (getD s 1 0) 0x54) mark .1) in
     omega arith
 
--- a row record that a reader found at an index
-is-there : (s : List ℕ) (at due : ℕ) → at + 4 ≤ length s → standingAt s at ≡ Standing.Gate (record { 0 = due }) → rowRecordAt s at due ≡ true
-is-there s at due h e = sym (rw e at (row-record s at due h)) ∙ eq-eqb due due refl
-
 module _ (c s : List ℕ) (k : ℕ) (h : k < gates c) (g : Gate) (is-g : g ≡ gateAt c k) (here : Cursor) (before : Guessed c s k (here .at)) where
   guess-free : charge (kindOf (g .code)) ≡ 0 → Guessed c s (k + 1) (here .at)
   guess-free e = record {
@@ -247,28 +237,18 @@ module _ (c s : List ℕ) (k : ℕ) (h : k < gates c) (g : Gate) (is-g : g ≡ g
   }
 
   module _ (charged : charge (kindOf (g .code)) ≡ 0 → ⊥) (due : ℕ) (is-due : due ≡ inputs c + k + 1) (there : Cursor)
-      (found : (there .at ≡ 0 → ⊥) → standingAt s (here .at) ≡ Standing.Gate (record { 0 = due }))
+      (found : (there .at ≡ 0 → ⊥) → rowRecordAt s (here .at) due ≡ true)
       (gone : (there .at ≡ 0 → ⊥) → there .at ≡ here .at + 4 + 16 * rowsStored (getD s 2 0)) where
     module _ (n : there .at ≡ 0 → ⊥) (known : Filed c (sizesOf c) s) where
-      file : FileHolds c s
-      file = file-holds c s (known .filed)
-
       -- it was right so far
       some : here .at ≡ 0 → ⊥
-      some z =
-          let e : standingAt s 0 ≡ Standing.Gate (record { 0 = due }) = rw z at (found n) in
-          no-row s due (header-mark c s (known .filed)) (is-there s 0 due (omega (arith, file .header)) e)
+      some z = no-row s due (header-mark c s (known .filed)) (rw z at (found n))
 
       so-far : RowsRight c s k (here .at)
       so-far = before .rows some known
 
-      within : here .at + 4 ≤ length s
-      within =
-          let room = row-room c s (file .whole) k h in
-          omega (arith, rw (← is-g, one-charged (kindOf (g .code)) charged .1, ← so-far .placed) at room)
-
       right : rowRecordAt s (here .at) (sizesOf c .n + k + 1) ≡ true
-      right = rw (is-n c (sizesOf c) (known .circuit), ← is-due) (is-there s (here .at) due within (found n))
+      right = rw (is-n c (sizesOf c) (known .circuit), ← is-due) (found n)
 
       gone-past : RowsRight c s (k + 1) (there .at)
       gone-past =
@@ -361,15 +341,15 @@ module _ (ts s : List ℕ) (w : Walk) (g : Gate) (found : GateRead) (is-found : 
   abbrev counted : ℕ → Sizes
   counted x = record { n = w .z .n; m = w .z .m; q = w .z .q; p = w .z .p + x }
 
-  pub try-counts : Few (w .k) (w .z) (w .k) → (x : ℕ) → found ≡ GateRead.Fine x → Fits w64 (w .z .p + x)
-  try-counts few x e = omega (arith, at-most-one x e, few .charged-few, few .more, few .wires)
+  pub try-counts : Tries w → (x : ℕ) → found ≡ GateRead.Fine x → Fits w64 (w .z .p + x)
+  try-counts asked x e = let few = asked .few in omega (arith, at-most-one x e, few .charged-few, few .more, few .wires)
 
-  pub try-few : Few (w .k) (w .z) (w .k) → (x : ℕ) → found ≡ GateRead.Fine x → Few (w .k) (counted x) (w .k + 1)
-  try-few few x e = record {
-    more = few .more;
-    wires = few .wires;
-    outputs-few = few .outputs-few;
-    charged-few = omega (arith, at-most-one x e, few .charged-few);
+  pub try-few : Tries w → (x : ℕ) → found ≡ GateRead.Fine x → Few (w .k) (counted x) (w .k + 1)
+  try-few asked x e = record {
+    more = asked .few .more;
+    wires = asked .few .wires;
+    outputs-few = asked .few .outputs-few;
+    charged-few = omega (arith, at-most-one x e, asked .few .charged-few);
   }
 
   -- where the next row record is due then
@@ -403,6 +383,7 @@ module _ (ts s : List ℕ) (w : Walk) (g : Gate) (found : GateRead) (is-found : 
           no-fault = first-next _ (w .k) (t .no-fault) (at-record c is (t .is-n) ∙ v .is-fine);
           counted = rw (add-one, tabulate-snoc (w .k) (gateAt c), charges-snoc, ← is .is-g, ← t .counted, ← v .is-result);
           guessed = guess x e there passed c (t .is-n) h is (t .guessed);
+          near = omega (arith, t .near, passed .near);
           untouched = t .untouched;
           turns = omega (arith, t .turns);
         });

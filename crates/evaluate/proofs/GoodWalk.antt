@@ -25,7 +25,7 @@ use Rattle.material.specs.Answers.{Accepted}
 use Rattle.material.proofs.SizeLaws.{limits, is-n, is-m, is-q, is-p, gates-many}
 use Rattle.material.proofs.RowLaws.{row-first, row-room, file-holds}
 use Rattle.evaluate.specs.declared.list.Walk.{Walk}
-use Rattle.evaluate.specs.GateList.{Lent, Ended, GoesTo, Begun, GateIs, Stands, Few, Checks, Writes, TryLeads, CheckLeads, WriteLeads}
+use Rattle.evaluate.specs.GateList.{Lent, Ended, GoesTo, Begun, GateIs, Stands, Few, Tries, Checks, Writes, TryLeads, CheckLeads, WriteLeads}
 use Rattle.evaluate.proofs.ReadyLaws.{evaluate-verdict}
 use Rattle.evaluate.proofs.WalkLaws.{walk-step, step-token, wires-walk}
 use Rattle.evaluate.proofs.GateListLaws.{neither, goes-0, refuses, accepted-by, wires}
@@ -44,15 +44,18 @@ later j p h e = let other : p ≡ j → ⊥ = λ i. neither e (eq-eqb p j i) in 
 
 -- ---- what a turn asks, of any circuit
 module _ (c ts s o : List ℕ) (left : ℕ) (w : Walk) (d : List ℕ) (st : Stands c ts s o left w d) where
-  few-tried : w .pass ≡ 0 → Few (w .k) (w .z) (w .k)
-  few-tried e =
+  tries : w .pass ≡ 0 → Tries w
+  tries e =
       let t = st .pass-0 e in
       let held = header-holds c (t .head) .sizes in
       record {
-        more = omega (arith, st .more (omega (arith, e)), t .is-q);
-        wires = omega (arith, held .sum, t .is-n, t .is-q);
-        outputs-few = omega (arith, held .m-high, t .is-m, t .is-q);
-        charged-few = rw (t .counted) (omega (arith, charges-le (tabulate (w .k) (gateAt c)), tabulate-length (w .k) (gateAt c)));
+        few = record {
+          more = omega (arith, st .more (omega (arith, e)), t .is-q);
+          wires = omega (arith, held .sum, t .is-n, t .is-q);
+          outputs-few = omega (arith, held .m-high, t .is-m, t .is-q);
+          charged-few = rw (t .counted) (omega (arith, charges-le (tabulate (w .k) (gateAt c)), tabulate-length (w .k) (gateAt c)));
+        };
+        near = t .near;
       }
 
   few-accepted : w .pass ≤ 2 → Accepted c (w .z) → Few (w .k) (w .z) (w .z .q)
@@ -150,6 +153,7 @@ module _ (n m : ℕ) (gs : List Gate) (ts s o : List ℕ) where
           no-fault = refl;
           counted = refl;
           guessed = record { rows = λ _ _. (record { no-fault = refl; placed = sym (row-first (circuitBytes n m gs) s) }) };
+          near = omega arith;
           untouched = refl;
           turns = omega (arith, q-made h);
         })
@@ -184,8 +188,8 @@ module _ (n m : ℕ) (gs : List Gate) (ts s o : List ℕ) where
       gate-is go fits = record { is-g = sym (gate-made n m gs (w .k) (within go) fits); mark = mark-made n m gs (w .k) (within go) }
 
       -- what a turn of each pass asks
-      pub asks-0 : w .pass ≡ 0 → Few (w .k) (w .z) (w .k)
-      asks-0 e = few-tried (circuitBytes n m gs) ts s o left w d (good .few (goes-few left w d good (omega (arith, e)))) e
+      pub asks-0 : w .pass ≡ 0 → Tries w
+      asks-0 e = tries (circuitBytes n m gs) ts s o left w d (good .few (goes-few left w d good (omega (arith, e)))) e
 
       module _ (fits : GateFits (getD gs (w .k) noGate)) where
         pub asks-1 : w .pass ≡ 1

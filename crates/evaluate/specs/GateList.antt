@@ -16,11 +16,9 @@ use Rattle.aes.specs.Tables.{IsTTables}
 use Rattle.model.specs.Aes.{keyExpansion, fixedKey}
 use Rattle.model.specs.Garbling.{schemeOf}
 use Rattle.model.specs.Material.{rowsStored}
-use Rattle.model.specs.Refusals.{fine, firstOf, headVerdict, gatesVerdict, rowStart, rowVerdict}
+use Rattle.model.specs.Refusals.{fine, firstOf, headVerdict, gatesVerdict, rowStart, rowVerdict, rowRecordAt}
 use Rattle.model.specs.Operations.{sizesOf, evaluatedOf, evaluateVerdict, EvaluateIs}
 use Rattle.material.specs.declared.records.Cursor.{Cursor}
-use Rattle.material.specs.declared.reader.Standing.{Standing}
-use Rattle.material.specs.Reader.{standingAt}
 use Rattle.material.specs.Answers.{Filed}
 use Rattle.evaluate.specs.declared.list.Walk.{Walk}
 use Rattle.evaluate.specs.Walk.{TokenStart, Walking}
@@ -70,7 +68,7 @@ pub record RowsRight (c s : List ℕ) (k at : ℕ) : Type 0 where
 pub record Guessed (c s : List ℕ) (k at : ℕ) : Type 0 where
   pub rows : (at ≡ 0 → ⊥) → Filed c (sizesOf c) s → RowsRight c s k at
 
--- pass 0: k gates have no fault; the index is where the next row record is due, or 0
+-- pass 0: k gates have no fault; the index is where the next row record is due, or 0, and no further than k row records of four rows reach
 pub record Tried (c s o : List ℕ) (left k : ℕ) (z : Sizes) (at : ℕ) (d : List ℕ) : Type 0 where
   pub head : headVerdict c ≡ fine
   pub is-n : z .n ≡ inputs c
@@ -80,6 +78,7 @@ pub record Tried (c s o : List ℕ) (left k : ℕ) (z : Sizes) (at : ℕ) (d : L
   pub no-fault : gatesVerdict c (inputs c) k ≡ fine
   pub counted : z .p ≡ charges (tabulate k (gateAt c))
   pub guessed : Guessed c s k at
+  pub near : at ≤ 9 + 68 * k
   pub untouched : d ≡ o
   pub turns : left + k ≡ 3 * gates c
 
@@ -116,12 +115,18 @@ pub record Few (k : ℕ) (z : Sizes) (most : ℕ) : Type 0 where
   pub outputs-few : z .m ≤ z .q
   pub charged-few : z .p ≤ most
 
--- past the row record of a gate of charge x: the index itself for a free gate; for a charged one past what a reader finds there, whole and with the
--- wire number that is due, or 0
+-- past the row record of a gate of charge x: the index itself for a free gate; for a charged one past its record, which has its mark and the wire
+-- number that is due there, or 0; no further than four rows on
 pub record RowPassed (s : List ℕ) (at x due past : ℕ) : Type 0 where
   pub free : x ≡ 0 → past ≡ at
-  pub found : (x ≡ 0 → ⊥) → (past ≡ 0 → ⊥) → standingAt s at ≡ Standing.Gate (record { 0 = due })
+  pub found : (x ≡ 0 → ⊥) → (past ≡ 0 → ⊥) → rowRecordAt s at due ≡ true
   pub gone : (x ≡ 0 → ⊥) → (past ≡ 0 → ⊥) → past ≡ at + 4 + 16 * rowsStored (getD s 2 0)
+  pub near : past ≤ at + 68
+
+-- pass 0 at a gate: no count overflows, nor a place past its row record
+pub record Tries (w : Walk) : Type 0 where
+  pub few : Few (w .k) (w .z) (w .k)
+  pub near : w .here .at ≤ 9 + 68 * w .k
 
 -- past the row record of gate k, at an index, there is room for the last record
 pub record Checks (ts s : List ℕ) (k : ℕ) (z : Sizes) (at : ℕ) : Type 0 where

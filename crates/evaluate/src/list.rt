@@ -7,12 +7,12 @@
 // All is decided here; `walk_gates` below only hands over one record after the other, in a loop for each pass.
 // Whatever enciphers is lent the T-tables t and the schedule w of π's fixed key.
 ghost use mathlib.Core.Path.{_≡_};
-ghost use Prim.Native.Nat.{_+_, _*_};
+ghost use Prim.Native.Nat.{_+_, _*_, _<_};
 ghost use lib.ListN.{getD};
 ghost use Rattle.model.specs.Circuit.{kindOf, charge};
 ghost use Rattle.model.specs.Material.{rowsStored};
 ghost use Rattle.model.specs.Operations.{evaluatedOf, EvaluateGatesIs};
-ghost use Rattle.evaluate.specs.GateList.{Lent, Ended, GoesTo, Begun, Onward, Few, RowPassed, Checks, Writes, TriedLeads, TryLeads, CheckedLeads, CheckLeads, WriteLeads};
+ghost use Rattle.evaluate.specs.GateList.{Lent, Ended, GoesTo, Begun, Onward, Few, RowPassed, Tries, Checks, Writes, TriedLeads, TryLeads, CheckedLeads, CheckLeads, WriteLeads};
 use crate::walk::calls_made;
 use crate::walk::write_charged;
 use crate::walk::write_free;
@@ -25,8 +25,6 @@ use circuit::gates::read_gate;
 use circuit::header::sizes_hold;
 use material::file::check_file;
 use material::last::check_last;
-use material::reader::Standing;
-use material::reader::found_at;
 use material::records::Cursor;
 use material::records::is_row;
 use material::rows_stored;
@@ -90,25 +88,23 @@ pub fn begin(n: u16, m: u16, q: usize) -> Walk
     go_to(0, 0, z, first)
 }
 
-// Past the row record of a gate of charge x, if it stands here with the wire number that is due and all of its rows; else place 0,
-// where a right material has its header's mark and so no row record. A free gate has none. For any bytes and any place.
+// Past the row record of a gate of charge x, if its mark and the wire number that is due stand here; else place 0, where a right
+// material has its header's mark and so no row record. A free gate has none. For any bytes; whether the rows lie within them is not
+// asked, since a material of the right length has all of them.
 fn row_passed(material: &[u8], here: Cursor, x: usize, due: Wire) -> Cursor
+    requires { ⌜ here .at + 68 < 18446744073709551616 ⌝ }
     ensures { λ r. ⌜ RowPassed (now (material .entry)) (here .at) x (due .0) (r .at) ⌝ }
 {
     if x == 0 {
         return here;
     }
-    match found_at(material, here.at) {
-        Standing::Gate(found) => {
-            if found.0 != due.0 {
-                return Cursor { at: 0 };
-            }
-            here.past(rows_stored(material[2]))
-        }
-        Standing::Cut(_) => Cursor { at: 0 },
-        Standing::Last => Cursor { at: 0 },
-        Standing::Nothing => Cursor { at: 0 },
+    if material.len() < here.at + 4 {
+        return Cursor { at: 0 };
     }
+    if is_row(material, here.at, due) {
+        return here.past(rows_stored(material[2]));
+    }
+    Cursor { at: 0 }
 }
 
 // Gate k has no fault. Its row record is due here, and the next there. After the last gate 11 and 12 to 16 are tried; pass 1 then
@@ -146,7 +142,7 @@ fn gate_tried(
 
 // Pass 0 at gate g: 6 and 7, and the charged gates are counted.
 pub fn try_gate(s: Walk, g: Gate, tokens: &[u8], material: &[u8]) -> Walk
-    requires { ⌜ Few (s .k) (s .z) (s .k) ⌝ }
+    requires { ⌜ Tries s ⌝ }
     ensures { λ r. ⌜ TryLeads (now (tokens .entry)) (now (material .entry)) s g r ⌝ }
 {
     let k = s.k;

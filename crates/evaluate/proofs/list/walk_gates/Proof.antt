@@ -65,7 +65,7 @@ use Rattle.model.proofs.Evaluated as E
 use Rattle.model.proofs.Evaluated.Laws as E′
 use Rattle.model.proofs.Records.{noGate, GateFits}
 use Rattle.evaluate.specs.declared.list.Walk.{Walk}
-use Rattle.evaluate.specs.GateList.{Lent, Begun, Few, Checks, Writes, TryLeads, CheckLeads, WriteLeads}
+use Rattle.evaluate.specs.GateList.{Lent, Begun, Tries, Checks, Writes, TryLeads, CheckLeads, WriteLeads}
 use Rattle.evaluate.proofs.list.Walk as S
 use Rattle.evaluate.proofs.list.Walk.Laws as S′
 use Rattle.evaluate.proofs.GoodWalk as G
@@ -342,7 +342,7 @@ module _ {M : Type 1} (𝓤 : URA M) (H : Heap 𝓤) (A : Atoms 𝓤) (W : Given
   abbrev asked-0 : List ℕ → Item 𝓤
   asked-0 d = (‵ OwnI ⊛ (‵ OwnM ⊛ (‵ (flft κ₃ q₃) ⊛ ‵ (flft κ₄ q₄))))
 
-  goes-0 : (s : Walk) (d : List ℕ) → Few (s .k) (s .z) (s .k) → Is S.the-row s (val-of s ∷ []) → Is T.the-row (g-at s) (T′.lowered (g-at s) ∷ [])
+  goes-0 : (s : Walk) (d : List ℕ) → Tries s → Is S.the-row s (val-of s ∷ []) → Is T.the-row (g-at s) (T′.lowered (g-at s) ∷ [])
       → ent 𝓤 (⋆ 𝓤 H A (asked-0 d ∷ [])) (Try 𝓤 H A mem run .pre (to-0 s d))
   goes-0 s d asks is p =
       qed W (asked-0 d ∷ []) ∵ says ! asks $
@@ -927,7 +927,7 @@ module _ {M : Type 1} (𝓤 : URA M) (H : Heap 𝓤) (A : Atoms 𝓤) (W : Given
           scaled : package.mir.Val.Fits w64 (s .k * 6)
           scaled = scaled-fits (s .k) (length gs) 6 within (room-g .1)
 
-          asks : Is T.the-row (g-at s) (T′.lowered (g-at s) ∷ []) → Few (s .k) (s .z) (s .k)
+          asks : Is T.the-row (g-at s) (T′.lowered (g-at s) ∷ []) → Tries s
           asks p = G.asks-0 n m gs (now xi) (now xm) (now xo) n-fits m-fits (suc left) s d (f .0) at-pass
 
           goes-next : Is T.the-row (g-at s) (T′.lowered (g-at s) ∷ []) → (r : Walk) → TryLeads (now xi) (now xm) s (g-at s) r
