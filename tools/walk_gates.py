@@ -39,11 +39,11 @@ AT = ['walk'] + HELD + [x for x in LOCALS if x != 'walk'] + ['dies ' + x for x i
 # For each pass: the function that its loop calls, what it is handed before and after the walk and the gate, whether the buffer is
 # among it, what it asks, and what it says of the walk that it hands back.
 PASSES = [
-    dict(call='try_gate', as_='try', before=[], after=['tokens', 'material'], buffer=False, asks='Tries s',
+    dict(call='try_gate', as_='try', before=[], after=['tokens', 'material'], buffer=False, asks='Tries (now xm) s',
          given='G.asks-0 n m gs (now xi) (now xm) (now xo) n-fits m-fits (suc left) s d (f .0) at-pass',
          says='TryLeads (now xi) (now xm) s (g-at s) r'),
     dict(call='check_record', as_='check', before=[], after=['tokens', 'material'], buffer=True,
-         asks='Checks (now xi) (now xm) (s .k) (s .z) (s .here .at + charge (kindOf (g-at s .code)) * (4 + 16 * rowsStored (getD (now xm) 2 0)))',
+         asks='Checks (now xi) (now xm) (s .k) (s .z) (s .rows) (s .here .at + charge (kindOf (g-at s .code)) * (4 + 16 * s .rows))',
          given='G.asks-1 n m gs (now xi) (now xm) (now xo) n-fits m-fits (suc left) s d (f .0) (gate-fits (g-at s) p) at-pass',
          says='CheckLeads (now xi) (now xm) s (g-at s) d r (last-1 zs)'),
     dict(call='write_next', as_='write', before=['t', 'w'], after=['material'], buffer=True,
@@ -117,6 +117,24 @@ def goes_call(one):
     if one['before']:
         w.gather('all', ['hand ' + x for x in one['before']] + ['owns'], 'fjoin')
     w.step('done !')
+    return w.text(6)
+
+
+def goes_begin():
+    """The same for `begin`, which is lent the material and asks nothing."""
+    w = Walk(['asked'])
+    w.scatter('asked', ['hand material', 'life material'])
+    w.step('nothing ! $')
+    w.names = ['true'] + w.names
+    w.gather('lives', ['life material', 'true'])
+    w.step('nothing ! $')
+    w.names = ['true'] + w.names
+    w.gather('owns', ['hand material', 'true'], 'fjoin')
+    w.step('owned ! usize (Is usize) (uint-makes 𝓤 H A W w64) (length gs) _ (refl, g-fits) $ fjoin ! $')
+    w.step('owned ! u16 (Is u16) (uint-makes 𝓤 H A W w16) m _ (refl, m-fits) $ fjoin ! $')
+    w.step('owned ! u16 (Is u16) (uint-makes 𝓤 H A W w16) n _ (refl, n-fits) $ fjoin ! $')
+    w.gather('all', ['lives', 'owns'])
+    w.step('frame ! $ done !')
     return w.text(6)
 
 
@@ -374,13 +392,17 @@ def starts():
     w.become(1, 'own wires', 'true')
     w.scatter('lives', ['life ' + x for x in LENT] + ['true more'])
     # the call
-    w.step('nothing ! $ use1 W (raw (Begin 𝓤 H A mem run .pre to-begin)) (goes-begin n-fits m-fits (room-g .0)) $')
-    w.names = ['asked'] + w.names
-    w.step('calls-at ! (fmOf 𝓤 H (W .laws) 𝓣) (Begin 𝓤 H A mem run) known-begin to-begin %s (λ v.' % w.operands(['n', 'm', 'count']))
-    w.step('use1 W (later (some (λ (r : Walk). (‵ ftrue ⊛ ‵ (S.the-row .own r (v ∷ []))) ⊛ raw (ensured 𝓤 H A begin.ended (begin.clauses 𝓤 H A mem run) tt (n, (m, (length gs, tt))) tt r)))) (id⊢ 𝓤 _) $ await ! tt $ pick ! (λ r.')
-    w.step('split ! $ move ! (1 ∷ []) $ use1 W (raw (fact 𝓤 (Begun n m (length gs) r))) (began r) $ heard ! (Begun n m (length gs) r) (λ begun. split ! $ drop ! $')
+    w.copy('material', OWN['material'], COPY['material'])
+    w.gather('asked', ['hand material', 'life material'])
+    w.step('use1 W (raw (Begin 𝓤 H A mem run .pre to-begin)) (goes-begin n-fits m-fits (room-g .0)) $')
+    w.step('calls-at ! (fmOf 𝓤 H (W .laws) 𝓣) (Begin 𝓤 H A mem run) known-begin to-begin %s (λ v.' % w.operands(['n', 'm', 'count', 'material']))
+    w.step('use1 W (later (some (λ (r : Walk). (lives-begin ⊛ ‵ (S.the-row .own r (v ∷ []))) ⊛ raw (ensured 𝓤 H A begin.ended (begin.clauses 𝓤 H A mem run) (κ₄, tt) args-begin tt r)))) (id⊢ 𝓤 _) $ await ! tt $ pick ! (λ r.')
+    w.step('split ! $ move ! (1 ∷ []) $ use1 W (raw (fact 𝓤 (Begun n m (length gs) (now xm) r))) (began r) $ heard ! (Begun n m (length gs) (now xm) r) (λ begun. split ! $')
+    w.become(1, 'lives', 'walk owns')
+    w.front('walk owns')
     w.step('peeks ! S.the-row (Is S.the-row) (shows 𝓤 H A S.the-row) r (v ∷ []) (λ is. drop ! $')
     w.become(1)
+    w.scatter('lives', ['life material', 'true again'])
     w.step('land ! (from ! (stop !)) (init ! %d refl (LL.lawful S.the-type S′.the-laws 𝓤 H A W .typed r _ is .0)) $' % w.at('walk'))
     w.step('rewrite ! %d (λ (u : Val). ‵ (fat fullShare S′.mir l%s 0 u)) (walk-val r v is) refl $' % (w.at('walk'), low(NUMBER['walk'])))
     w.forget('count')
@@ -402,6 +424,7 @@ def main():
         'HELD': ' ∷ '.join(item(x) for x in HELD) + ' ∷ []',
         'FINISHES': finishes(),
         'EXITS': exits(),
+        'GOES_BEGIN': goes_begin(),
         'ENTERED': ' ∷ '.join(entered(x) for x in ENTERED) + ' ∷ []',
         'STARTS': starts(),
         'MADE': ' '.join('alloc1 ! {τ = %s} (λ l%s.' % (TYPES[i], low(i)) for i in range(len(LOCALS))),

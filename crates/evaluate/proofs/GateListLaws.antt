@@ -1,5 +1,5 @@
 -- Evaluation over a list of gate records: a law for each return of the functions of src/list.rt. Assumes nothing.
-use Prim.Native.Nat.{ℕ, zero, suc, _+_, _*_, _≤_, _<_}
+use Prim.Native.Nat.{ℕ, zero, suc, _+_, _*_, _≤_, _<_, _^_}
 use native.Mathlib.Numerals.{add-one}
 use native.Mathlib.Decide.{decLt}
 use native.Mathlib.Omega.{arith}
@@ -8,7 +8,7 @@ use mathlib.Core.Bool.{Bool, true, false, not, _&&_}
 use mathlib.Core.List.{List}
 use borrow.Author.Tests.{le-leb, lt-leb, lt-ltb, le-ltb, eq-eqb, eqb-true, ne-eqb, not-true, not-false}
 use lib.Dec.{leb, eqb}
-use lib.ListN.{length, getD}
+use lib.ListN.{length, getD, List·getD-eq-default}
 use mir.Syntax.{w64}
 use mir.Val.{Fits}
 use Rattle.model.specs.declared.Gate.{Gate}
@@ -49,27 +49,42 @@ use Rattle.evaluate.proofs.ReadyLaws.{evaluate-verdict}
 use Rattle.evaluate.proofs.WalkLaws.{past-is, charged-room, charge-cases, walk-start, walk-turn, walk-end, wires-walk, wires-done}
 use Rattle.evaluate.proofs.EvaluateLaws.{evaluate-start, evaluate-done}
 
+-- ---- scheme_rows, of the rows as they were counted
+
+module _ (s : List ℕ) (rows : ℕ) where
+  pub rows-none : length s ≤ 2 → rows ≡ rowsStored 0 → rows ≡ rowsStored (getD s 2 0)
+  rows-none h e = e ∙ ap rowsStored (sym (List·getD-eq-default s 0 h))
+
+pub rows-few : (scheme : ℕ) → rowsStored scheme ≤ 4
+unfolding rowsStored
+rows-few zero = omega arith
+rows-few (suc zero) = omega arith
+rows-few (suc (suc zero)) = omega arith
+rows-few (suc (suc (suc zero))) = omega arith
+rows-few (suc (suc (suc (suc k)))) = omega arith
+
 -- ---- begin
 
 pub neither : {A : Type 0} {b : Bool} → b ≡ false → b ≡ true → A
 neither e f = absurd (let z : _≡_ {A = ℕ} 0 1 = cc in omega arith)
 
-module _ (n m q : ℕ) (r : Walk) where
+module _ (n m q : ℕ) (s : List ℕ) (r : Walk) where
   -- 3, where its condition is met
-  limited : (leb q 65535 && sizesHold n m q) ≡ false → Ended (Evaluated.Refused Limits) r → Begun n m q r
+  limited : (leb q 65535 && sizesHold n m q) ≡ false → Ended (Evaluated.Refused Limits) r → Begun n m q s r
   limited h e = record { goes = λ t. neither h t; stops = λ _. e }
 
-  pub begun-many : 65535 < q → Ended (Evaluated.Refused Limits) r → Begun n m q r
+  pub begun-many : 65535 < q → Ended (Evaluated.Refused Limits) r → Begun n m q s r
   begun-many h = limited (rw (lt-leb _ _ h))
 
   -- the limits as they were tried
   module _ (few : q ≤ 65535) (b : Bool) (is-b : b ≡ sizesHold n m q) where
-    pub begun-limits : not b ≡ true → Ended (Evaluated.Refused Limits) r → Begun n m q r
+    pub begun-limits : not b ≡ true → Ended (Evaluated.Refused Limits) r → Begun n m q s r
     begun-limits h = limited (rw (le-leb _ _ few, ← is-b, not-true b h))
 
-    pub begun-first : not b ≡ false → (here : Cursor) → here .at ≡ 9 → GoesTo 0 0 (record { n = n; m = m; q = q; p = 0 }) here r → Begun n m q r
-    begun-first h here at g = record {
-      goes = λ _. let e : here ≡ record { at = 9 } = ap (λ (x : ℕ). record { at = x }) at in rw (← e) g;
+    pub begun-first : not b ≡ false → (here : Cursor) → here .at ≡ 9 → (rows : ℕ) → rows ≡ rowsStored (getD s 2 0)
+        → GoesTo 0 0 (record { n = n; m = m; q = q; p = 0 }) here rows r → Begun n m q s r
+    begun-first h here at rows is-rows g = record {
+      goes = λ _. let e : here ≡ record { at = 9 } = ap (λ (x : ℕ). record { at = x }) at in rw (← e, ← is-rows) g;
       stops = λ e. neither e (rw (le-leb _ _ few, ← is-b, not-false b h));
     }
 
@@ -83,6 +98,7 @@ module _ (c ts s o : List ℕ) (left : ℕ) (w : Walk) (d : List ℕ) where
   ends e is = record {
     passes = omega (arith, e);
     more = λ h. absurd (omega (arith, e));
+    rows = λ h. absurd (omega (arith, e));
     pass-0 = λ h. absurd (omega (arith, e));
     pass-1 = λ h. absurd (omega (arith, e));
     pass-2 = λ h. absurd (omega (arith, e));
@@ -94,31 +110,34 @@ module _ (c ts s o : List ℕ) (left : ℕ) (w : Walk) (d : List ℕ) where
   refuses f e u v = ends (e .over) (record { answered = rw (e .answered, v); left = rw v u })
 
   -- it goes on, in one of the passes
-  module _ (k : ℕ) (z : Sizes) (here : Cursor) (more : k < gates c) where
-    pub goes-0 : GoesTo 0 k z here w → Tried c s o left k z (here .at) d → Stands c ts s o left w d
+  module _ (k : ℕ) (z : Sizes) (here : Cursor) (rows : ℕ) (is-rows : rows ≡ rowsStored (getD s 2 0)) (more : k < gates c) where
+    pub goes-0 : GoesTo 0 k z here rows w → Tried c s o left k z (here .at) d → Stands c ts s o left w d
     goes-0 g t = record {
       passes = omega (arith, g .is-pass);
       more = λ _. rw (g .is-k) more;
+      rows = λ _. g .is-rows ∙ is-rows;
       pass-0 = λ _. rw (g .is-k, g .is-z, g .is-here) t;
       pass-1 = λ e. absurd (omega (arith, g .is-pass));
       pass-2 = λ e. absurd (omega (arith, g .is-pass));
       ended = λ e. absurd (omega (arith, g .is-pass));
     }
 
-    goes-1 : GoesTo 1 k z here w → Checked c ts s o left k z (here .at) d → Stands c ts s o left w d
+    goes-1 : GoesTo 1 k z here rows w → Checked c ts s o left k z (here .at) d → Stands c ts s o left w d
     goes-1 g t = record {
       passes = omega (arith, g .is-pass);
       more = λ _. rw (g .is-k) more;
+      rows = λ _. g .is-rows ∙ is-rows;
       pass-0 = λ e. absurd (omega (arith, g .is-pass));
       pass-1 = λ _. rw (g .is-k, g .is-z, g .is-here) t;
       pass-2 = λ e. absurd (omega (arith, g .is-pass));
       ended = λ e. absurd (omega (arith, g .is-pass));
     }
 
-    goes-2 : GoesTo 2 k z here w → Written c ts s o left k z (here .at) d → Stands c ts s o left w d
+    goes-2 : GoesTo 2 k z here rows w → Written c ts s o left k z (here .at) d → Stands c ts s o left w d
     goes-2 g t = record {
       passes = omega (arith, g .is-pass);
       more = λ _. rw (g .is-k) more;
+      rows = λ _. g .is-rows ∙ is-rows;
       pass-0 = λ e. absurd (omega (arith, g .is-pass));
       pass-1 = λ e. absurd (omega (arith, g .is-pass));
       pass-2 = λ _. rw (g .is-k, g .is-z, g .is-here) t;
@@ -188,21 +207,20 @@ module _ (c : List ℕ) (z : Sizes) (s : List ℕ) (known : Filed c z s) (k : �
 
 -- ---- row_passed
 
-module _ (s : List ℕ) (at x due : ℕ) where
-  pub passed-free : x ≡ 0 → RowPassed s at x due at
+module _ (s : List ℕ) (at rows x due : ℕ) where
+  pub passed-free : x ≡ 0 → RowPassed s at rows x due at
   passed-free e = record { free = λ _. refl; found = λ n. absurd (n e); gone = λ n. absurd (n e); near = omega arith }
 
   module _ (n : x ≡ 0 → ⊥) where
-    pub passed-not : RowPassed s at x due 0
+    pub passed-not : RowPassed s at rows x due 0
     passed-not = record { free = λ e. absurd (n e); found = λ _ z. absurd (z refl); gone = λ _ z. absurd (z refl); near = omega arith }
 
-    -- whether its record is there, as it was read, and the rows as they were counted
-    pub passed-right : (b : Bool) → b ≡ rowRecordAt s at due → b ≡ true → (rows : ℕ) → rows ≡ rowsStored (getD s 2 0) → rows ≤ 4
-        → (there : ℕ) → there ≡ at + 4 + 16 * rows → RowPassed s at x due there
-    passed-right b is-b e rows is-rows few there is-there = record {
+    -- whether its record is there, as it was read
+    pub passed-right : (b : Bool) → b ≡ rowRecordAt s at due → b ≡ true → (there : ℕ) → there ≡ at + 4 + 16 * rows → RowPassed s at rows x due there
+    passed-right b is-b e there is-there = record {
       free = λ f. absurd (n f);
       found = λ _ _. sym is-b ∙ e;
-      gone = λ _ _. rw (← is-rows) is-there;
+      gone = λ _ _. is-there;
       near = omega arith;
     }
 
@@ -273,9 +291,9 @@ all-tried c s o d left k z at t h =
       sizes = sizes-are z _ _ _ _ (t .is-n) (t .is-m) (t .is-q) (rw e at (t .counted));
     }
 
-module _ (ts s : List ℕ) (k : ℕ) (z : Sizes) (here there : Cursor) (r : Walk) where
-  pub tried-next : k + 1 < z .q → GoesTo 0 (k + 1) z there r → TriedLeads ts s k z (here .at) (there .at) r
-  tried-next h g = record { leads = λ c o d left _ t. goes-0 c ts s o left r d (k + 1) z there (omega (arith, t .is-q)) g t }
+module _ (ts s : List ℕ) (k : ℕ) (z : Sizes) (here there : Cursor) (rows : ℕ) (is-rows : rows ≡ rowsStored (getD s 2 0)) (r : Walk) where
+  pub tried-next : k + 1 < z .q → GoesTo 0 (k + 1) z there rows r → TriedLeads ts s k z (here .at) (there .at) r
+  tried-next h g = record { leads = λ c o d left _ t. goes-0 c ts s o left r d (k + 1) z there rows is-rows (omega (arith, t .is-q)) g t }
 
   module _ (last : z .q ≤ k + 1) where
     pub tried-tokens : (length ts ≡ 16 * z .n → ⊥) → Ended (Evaluated.Refused (TokensLength (length ts))) r → TriedLeads ts s k z (here .at) (there .at) r
@@ -298,12 +316,12 @@ module _ (ts s : List ℕ) (k : ℕ) (z : Sizes) (here there : Cursor) (r : Walk
 
       module _ (i : u ≡ Ran.Done) where
         -- to a gate whose row record is due at an index, those before it right
-        to-record : (j : ℕ) (at : Cursor) → GoesTo 1 j z at r → j ≤ k → ((c : List ℕ) → Guessed c s k (here .at) → Filed c z s → RowsRight c s j (at .at))
+        to-record : (j : ℕ) (at : Cursor) → GoesTo 1 j z at rows r → j ≤ k → ((c : List ℕ) → Guessed c s k (here .at) → Filed c z s → RowsRight c s j (at .at))
             → TriedLeads ts s k z (here .at) (there .at) r
         to-record j at g low right = record {
           leads = λ c o d left before t.
               let known = filed c z s (all-tried c s o d left (k + 1) z (there .at) t last) u is-u i in
-              goes-1 c ts s o left r d j z at (omega (arith, t .within)) g
+              goes-1 c ts s o left r d j z at rows is-rows (omega (arith, t .within)) g
               (record {
                 known = known;
                 tokens = rw (t .is-n) at l;
@@ -315,11 +333,11 @@ module _ (ts s : List ℕ) (k : ℕ) (z : Sizes) (here there : Cursor) (r : Walk
         }
 
         -- the first, or the last
-        pub tried-first : (first : Cursor) → first .at ≡ 9 → GoesTo 1 0 z first r → TriedLeads ts s k z (here .at) (there .at) r
+        pub tried-first : (first : Cursor) → first .at ≡ 9 → GoesTo 1 0 z first rows r → TriedLeads ts s k z (here .at) (there .at) r
         tried-first first at g =
             to-record 0 first g (omega arith) (λ c _ _. (record { no-fault = unfold firstOf in refl; placed = at ∙ sym (row-first c s) }))
 
-        pub tried-last : (here .at ≡ 0 → ⊥) → GoesTo 1 k z here r → TriedLeads ts s k z (here .at) (there .at) r
+        pub tried-last : (here .at ≡ 0 → ⊥) → GoesTo 1 k z here rows r → TriedLeads ts s k z (here .at) (there .at) r
         tried-last n g = to-record k here g (omega arith) (λ c before known. before .rows n (rw (known .circuit .sizes) at known))
 
 pub ruleset tried-cases = (tried-next, tried-tokens, tried-file, tried-first, tried-last)
@@ -341,10 +359,13 @@ module _ (ts s : List ℕ) (w : Walk) (g : Gate) (found : GateRead) (is-found : 
   abbrev counted : ℕ → Sizes
   counted x = record { n = w .z .n; m = w .z .m; q = w .z .q; p = w .z .p + x }
 
-  pub try-counts : Tries w → (x : ℕ) → found ≡ GateRead.Fine x → Fits w64 (w .z .p + x)
+  pub try-counts : Tries s w → (x : ℕ) → found ≡ GateRead.Fine x → Fits w64 (w .z .p + x)
   try-counts asked x e = let few = asked .few in omega (arith, at-most-one x e, few .charged-few, few .more, few .wires)
 
-  pub try-few : Tries w → (x : ℕ) → found ≡ GateRead.Fine x → Few (w .k) (counted x) (w .k + 1)
+  pub try-fits : Tries s w → w .here .at + 4 + 16 * w .rows < 18446744073709551616
+  try-fits asked = omega (arith, asked .near, asked .few .more, asked .few .wires, asked .is-rows, rows-few (getD s 2 0))
+
+  pub try-few : Tries s w → (x : ℕ) → found ≡ GateRead.Fine x → Few (w .k) (counted x) (w .k + 1)
   try-few asked x e = record {
     more = asked .few .more;
     wires = asked .few .wires;
@@ -353,7 +374,8 @@ module _ (ts s : List ℕ) (w : Walk) (g : Gate) (found : GateRead) (is-found : 
   }
 
   -- where the next row record is due then
-  module _ (x : ℕ) (e : found ≡ GateRead.Fine x) (there : Cursor) (passed : RowPassed s (w .here .at) x (w .z .n + w .k + 1) (there .at)) where
+  module _ (x : ℕ) (e : found ≡ GateRead.Fine x) (there : Cursor) (passed : RowPassed s (w .here .at) (w .rows) x (w .z .n + w .k + 1) (there .at))
+      (is-rows : w .rows ≡ rowsStored (getD s 2 0)) where
     guess : (c : List ℕ) → w .z .n ≡ inputs c → w .k < gates c → GateIs c (w .k) g → Guessed c s (w .k) (w .here .at) → Guessed c s (w .k + 1) (there .at)
     guess c is-n h is before = by-charge x refl
       where
@@ -365,12 +387,12 @@ module _ (ts s : List ℕ) (w : Walk) (g : Gate) (found : GateRead) (is-found : 
         by-charge (suc y) f =
             let some : x ≡ 0 → ⊥ = λ z. absurd (omega arith) in
             guess-charged c s (w .k) h g (is .is-g) (w .here) before (λ z. some (is-x ∙ z)) (w .z .n + w .k + 1) (rw is-n) there (passed .found some)
-            (passed .gone some)
+            (λ z. rw is-rows at (passed .gone some z))
 
   -- without a fault, it adds its charge
-  pub try-fine : (x : ℕ) → found ≡ GateRead.Fine x → (there : Cursor) → RowPassed s (w .here .at) x (w .z .n + w .k + 1) (there .at) → (r : Walk)
+  pub try-fine : Tries s w → (x : ℕ) → found ≡ GateRead.Fine x → (there : Cursor) → RowPassed s (w .here .at) (w .rows) x (w .z .n + w .k + 1) (there .at) → (r : Walk)
       → TriedLeads ts s (w .k) (counted x) (w .here .at) (there .at) r → TryLeads ts s w g r
-  try-fine x e there passed r next = record {
+  try-fine asked x e there passed r next = record {
     leads = λ c o d left h is t.
         let v = fine-gate x e in
         next .leads c o d left (t .guessed)
@@ -382,8 +404,8 @@ module _ (ts s : List ℕ) (w : Walk) (g : Gate) (found : GateRead) (is-found : 
           within = omega arith;
           no-fault = first-next _ (w .k) (t .no-fault) (at-record c is (t .is-n) ∙ v .is-fine);
           counted = rw (add-one, tabulate-snoc (w .k) (gateAt c), charges-snoc, ← is .is-g, ← t .counted, ← v .is-result);
-          guessed = guess x e there passed c (t .is-n) h is (t .guessed);
-          near = omega (arith, t .near, passed .near);
+          guessed = guess x e there passed (asked .is-rows) c (t .is-n) h is (t .guessed);
+          near = omega (arith, t .near, passed .near, asked .is-rows, rows-few (getD s 2 0));
           untouched = t .untouched;
           turns = omega (arith, t .turns);
         });
@@ -399,15 +421,15 @@ module _ (ts s : List ℕ) (w : Walk) (g : Gate) (found : GateRead) (is-found : 
           let k : recordVerdict c (inputs c) (w .k) ≡ refused (v .number) (v .place) = at-record c is (t .is-n) ∙ v .is-v in
           by-gate c ts s (length o) (w .k) (v .number) (v .place) (t .head) (t .no-fault) h k ∙ sym (v .is-w)
 
-pub ruleset try-cases = (try-counts, try-few, try-fine, try-fault)
+pub ruleset try-cases = (try-counts, try-fits, try-few, try-fine, try-fault)
 
 -- ---- record_checked
 
-module _ (ts s : List ℕ) (k : ℕ) (z : Sizes) (there : Cursor) (d : List ℕ) (r : Walk) where
-  pub checked-next : k + 1 < z .q → GoesTo 1 (k + 1) z there r → CheckedLeads ts s k z (there .at) d r d
+module _ (ts s : List ℕ) (k : ℕ) (z : Sizes) (there : Cursor) (rows : ℕ) (asked : Checks ts s k z rows (there .at)) (d : List ℕ) (r : Walk) where
+  pub checked-next : k + 1 < z .q → GoesTo 1 (k + 1) z there rows r → CheckedLeads ts s k z (there .at) d r d
   checked-next h g = record {
     on = omega (arith, g .is-pass);
-    leads = λ c o left t. goes-1 c ts s o left r d (k + 1) z there (omega (arith, is-q c z (t .known .circuit))) g t;
+    leads = λ c o left t. goes-1 c ts s o left r d (k + 1) z there rows (asked .is-rows) (omega (arith, is-q c z (t .known .circuit))) g t;
   }
 
   -- all row records were checked
@@ -437,7 +459,7 @@ module _ (ts s : List ℕ) (k : ℕ) (z : Sizes) (there : Cursor) (d : List ℕ)
             refuses c ts s o left r d (Room (16 * (z .n + z .q))) e (t .untouched) (rw (is-n c z k, is-q c z k) v);
       }
 
-      pub checked-all : 16 * (z .n + z .q) ≤ length d → (d′ : List ℕ) → d′ ≡ over ts d → (here : Cursor) → here .at ≡ 9 → GoesTo 2 0 z here r
+      pub checked-all : 16 * (z .n + z .q) ≤ length d → (d′ : List ℕ) → d′ ≡ over ts d → (here : Cursor) → here .at ≡ 9 → GoesTo 2 0 z here rows r
           → CheckedLeads ts s k z (there .at) d r d′
       checked-all h d′ is-d here at g = record {
         on = omega (arith, g .is-pass);
@@ -446,7 +468,7 @@ module _ (ts s : List ℕ) (k : ℕ) (z : Sizes) (there : Cursor) (d : List ℕ)
             let fit = verdict-fine c ts s (length o) (k .accepted) (t .tokens) (rw i at (all-checked c o left t))
             (rw (← is-n c z k, ← is-q c z k, ← t .untouched) h) in
             let sizes = limits c z k .sizes in
-            goes-2 c ts s o left r d′ 0 z here (omega (arith, sizes .m-low, sizes .m-high)) g
+            goes-2 c ts s o left r d′ 0 z here rows (asked .is-rows) (omega (arith, sizes .m-low, sizes .m-high)) g
             (record {
               sizes = k .sizes;
               fit = fit;
@@ -490,9 +512,9 @@ module _ (ts s : List ℕ) (w : Walk) (g : Gate) where
       free : charge (kindOf (g .code)) ≡ 0
       free = sym is-x ∙ e
 
-      pub free-asks : Checks ts s (w .k) (w .z) (w .here .at + charge (kindOf (g .code)) * (4 + 16 * rowsStored (getD s 2 0)))
-          → Checks ts s (w .k) (w .z) (w .here .at)
-      free-asks a = record { few = a .few; tokens = a .tokens; header = a .header; room = omega (arith, rw free at (a .room)) }
+      pub free-asks : Checks ts s (w .k) (w .z) (w .rows) (w .here .at + charge (kindOf (g .code)) * (4 + 16 * w .rows))
+          → Checks ts s (w .k) (w .z) (w .rows) (w .here .at)
+      free-asks a = record { few = a .few; is-rows = a .is-rows; tokens = a .tokens; header = a .header; room = omega (arith, rw free at (a .room)) }
 
       pub free-passed : (d : List ℕ) (r : Walk) (d′ : List ℕ) → CheckedLeads ts s (w .k) (w .z) (w .here .at) d r d′ → CheckLeads ts s w g d r d′
       free-passed = goes-past (Step.Next (w .here)) (answer-free s (w .here .at) (rowsStored (getD s 2 0)) (g .code) (w .z .n + w .k + 1) free) (w .here) refl
@@ -502,12 +524,16 @@ module _ (ts s : List ℕ) (w : Walk) (g : Gate) where
       charged : charge (kindOf (g .code)) ≡ 0 → ⊥
       charged e = n (is-x ∙ e)
 
-      whole : Checks ts s (w .k) (w .z) (w .here .at + charge (kindOf (g .code)) * (4 + 16 * rowsStored (getD s 2 0)))
-          → w .here .at + 4 + 16 * rowsStored (getD s 2 0) + 2 + w .z .m ≤ length s
+      whole : Checks ts s (w .k) (w .z) (w .rows) (w .here .at + charge (kindOf (g .code)) * (4 + 16 * w .rows))
+          → w .here .at + 4 + 16 * w .rows + 2 + w .z .m ≤ length s
       whole a = omega (arith, rw (one-charged (kindOf (g .code)) charged .1) at (a .room))
 
-      pub charged-asks : Checks ts s (w .k) (w .z) (w .here .at + charge (kindOf (g .code)) * (4 + 16 * rowsStored (getD s 2 0))) → w .here .at + 4 ≤ length s
+      pub charged-asks : Checks ts s (w .k) (w .z) (w .rows) (w .here .at + charge (kindOf (g .code)) * (4 + 16 * w .rows)) → w .here .at + 4 ≤ length s
       charged-asks a = omega (arith, whole a)
+
+      pub charged-fits : Checks ts s (w .k) (w .z) (w .rows) (w .here .at + charge (kindOf (g .code)) * (4 + 16 * w .rows)) → length s < 2 ^ 64
+          → w .here .at + 4 + 16 * w .rows < 18446744073709551616
+      charged-fits a l = omega (arith, whole a)
 
       -- whether its record is there, as it was read
       module _ (b : Bool) (is-b : b ≡ rowRecordAt s (w .here .at) (w .z .n + w .k + 1)) where
@@ -522,30 +548,30 @@ module _ (ts s : List ℕ) (w : Walk) (g : Gate) where
               c o d left h is t (RowRecord due) refl);
         }
 
-        module _ (e : not b ≡ false) (there : Cursor) (rows : ℕ) (is-rows : rows ≡ rowsStored (getD s 2 0)) (is-there : there .at ≡ w .here .at + 4 + 16 * rows) where
-          pub charged-past : Checks ts s (w .k) (w .z) (w .here .at + charge (kindOf (g .code)) * (4 + 16 * rowsStored (getD s 2 0)))
-              → Checks ts s (w .k) (w .z) (there .at)
-          charged-past a = record { few = a .few; tokens = a .tokens; header = a .header; room = rw (is-there, is-rows) (whole a) }
+        module _ (e : not b ≡ false) (there : Cursor) (is-there : there .at ≡ w .here .at + 4 + 16 * w .rows)
+            (a : Checks ts s (w .k) (w .z) (w .rows) (w .here .at + charge (kindOf (g .code)) * (4 + 16 * w .rows))) where
+          pub charged-past : Checks ts s (w .k) (w .z) (w .rows) (there .at)
+          charged-past = record { few = a .few; is-rows = a .is-rows; tokens = a .tokens; header = a .header; room = rw is-there (whole a) }
 
           pub charged-right : (d : List ℕ) (r : Walk) (d′ : List ℕ) → CheckedLeads ts s (w .k) (w .z) (there .at) d r d′ → CheckLeads ts s w g d r d′
           charged-right =
               goes-past (Step.Next there)
               (answer-right s (w .here .at) (rowsStored (getD s 2 0)) (g .code) (w .z .n + w .k + 1) charged (sym is-b ∙ not-false b e) (there .at)
-              (rw is-rows at is-there)) there refl
+              (rw (a .is-rows) at is-there)) there refl
 
-pub ruleset check-asks = (free-asks, charged-asks, charged-past)
+pub ruleset check-asks = (free-asks, charged-asks, charged-fits, charged-past)
 
 pub ruleset check-cases = (free-passed, charged-wrong, charged-right)
 
 -- ---- token_written
-module _ (scheme k : ℕ) (z : Sizes) (there : Cursor) (r : Walk) where
-  pub onward-more : k + 1 < z .q → GoesTo 2 (k + 1) z there r → Onward scheme k z there r
+module _ (scheme k : ℕ) (z : Sizes) (there : Cursor) (rows : ℕ) (r : Walk) where
+  pub onward-more : k + 1 < z .q → GoesTo 2 (k + 1) z there rows r → Onward scheme k z there rows r
   onward-more h goes = record { goes = λ l. goes; stops = λ l. absurd (not-both l) }
     where
       not-both : z .q ≤ k + 1 → ⊥
       not-both l = omega arith
 
-  pub onward-last : z .q ≤ k + 1 → (calls : ℕ) → calls ≡ z .p * schemeOf scheme .evaluateCalls → Ended (Evaluated.Done calls) r → Onward scheme k z there r
+  pub onward-last : z .q ≤ k + 1 → (calls : ℕ) → calls ≡ z .p * schemeOf scheme .evaluateCalls → Ended (Evaluated.Done calls) r → Onward scheme k z there rows r
   onward-last h calls is-calls e = record { goes = λ l. absurd (not-both l); stops = λ l. rw (← is-calls) e }
     where
       not-both : k + 1 < z .q → ⊥
@@ -555,7 +581,7 @@ pub ruleset onward-cases = (onward-more, onward-last)
 
 -- ---- write_next
 module _ (s : List ℕ) (w : Walk) (g : Gate) (d d′ : List ℕ) (there : Cursor)
-    (is : TokenIs (getD s 2 0) (w .z .n) (w .k) g s (w .here .at) d (there .at) d′) (r : Walk) where
+    (is : TokenIs (getD s 2 0) (w .z .n) (w .k) g s (w .here .at) d (there .at) d′) (is-rows : w .rows ≡ rowsStored (getD s 2 0)) (r : Walk) where
   -- one more token is written
   one-more : (c ts o : List ℕ) (left : ℕ) → w .k < gates c → GateIs c (w .k) g → Written c ts s o (suc left) (w .k) (w .z) (w .here .at) d
       → Walking c s (inputs c) (gates c) (over ts o) (w .k + 1) (there .at) d′
@@ -565,12 +591,12 @@ module _ (s : List ℕ) (w : Walk) (g : Gate) (d d′ : List ℕ) (there : Curso
       walk-turn c s _ _ (over ts o) (wires-walk c ts s _ _ o (wires c ts s o (w .z) known (t .fit)) (over ts o) refl) (w .k) (w .here .at) d (t .so-far) h
       (there .at) d′ step
 
-  write-more : w .k + 1 < w .z .q → GoesTo 2 (w .k + 1) (w .z) there r → WriteLeads s w g d r d′
+  write-more : w .k + 1 < w .z .q → GoesTo 2 (w .k + 1) (w .z) there (w .rows) r → WriteLeads s w g d r d′
   write-more h goes = record {
     on = omega (arith, goes .is-pass);
     leads = λ c ts o left more gate t.
         let known = accepted-by c ts s o (w .z) (t .sizes) (t .fit) in
-        goes-2 c ts s o left r d′ (w .k + 1) (w .z) there (omega (arith, is-q c (w .z) known)) goes
+        goes-2 c ts s o left r d′ (w .k + 1) (w .z) there (w .rows) is-rows (omega (arith, is-q c (w .z) known)) goes
         (record { sizes = t .sizes; fit = t .fit; so-far = one-more c ts o left more gate t; turns = omega (arith, t .turns) });
   }
 
@@ -587,31 +613,36 @@ module _ (s : List ℕ) (w : Walk) (g : Gate) (d d′ : List ℕ) (there : Curso
         (rw (e .answered) (evaluate-done c ts s o (Ready.Go (w .z)) (rw (t .fit, ← t .sizes)) (w .z) refl _ refl d′ left-is));
   }
 
-  write-on : Onward (getD s 2 0) (w .k) (w .z) there r → WriteLeads s w g d r d′
+  write-on : Onward (getD s 2 0) (w .k) (w .z) there (w .rows) r → WriteLeads s w g d r d′
   write-on next = go (decLt (w .k + 1) (w .z .q))
     where
       go : Dec (w .k + 1 < w .z .q) → WriteLeads s w g d r d′
       go (Dec.yes h) = write-more h (next .goes h)
       go (Dec.no h) = let l : w .z .q ≤ w .k + 1 = omega arith in write-last l (next .stops l)
 
--- the same after a gate that is not charged
-pub write-on-free : (s : List ℕ) (w : Walk) (g : Gate) (d d′ : List ℕ) → FreeTokenIs (w .z .n) (w .k) g d d′ → (r : Walk)
-    → Onward (getD s 2 0) (w .k) (w .z) (w .here) r → WriteLeads s w g d r d′
-write-on-free s w g d d′ is r next = write-on s w g d d′ (w .here) (is .left (getD s 2 0) s (w .here .at)) r next
+module _ (t k s d : List ℕ) (w : Walk) (g : Gate) (asked : Writes t k s d w g) where
+  -- the same after a gate that is not charged
+  pub write-on-free : (d′ : List ℕ) → FreeTokenIs (w .z .n) (w .k) g d d′ → (r : Walk) → Onward (getD s 2 0) (w .k) (w .z) (w .here) (w .rows) r
+      → WriteLeads s w g d r d′
+  write-on-free d′ is r next = write-on s w g d d′ (w .here) (is .left (getD s 2 0) s (w .here .at)) (asked .is-rows) r next
 
--- the same after a charged gate
-module _ (s : List ℕ) (w : Walk) (g : Gate) (d : List ℕ) (start : TokenStart (getD s 2 0) (w .z .n) (w .k) g s (w .here .at) d) (h : charge (kindOf (g .code)) ≡ 1) where
-  pub write-room : RecordRoom (getD s 2 0) (w .here .at) s
-  write-room = charged-room (getD s 2 0) (g .code) (w .here .at) s (start .record-room) h
+  -- and after a charged one
+  module _ (h : charge (kindOf (g .code)) ≡ 1) where
+    pub write-room : RecordRoom (getD s 2 0) (w .here .at) s
+    write-room = charged-room (getD s 2 0) (g .code) (w .here .at) s (asked .start .record-room) h
 
-  module _ (rows : ℕ) (is-rows : rows ≡ rowsStored (getD s 2 0)) where
-    pub write-on-charged : (there : Cursor) → there .at ≡ w .here .at + 4 + 16 * rows → (d′ : List ℕ)
+    pub write-fits : length s < 2 ^ 64 → w .here .at + 4 + 16 * w .rows < 18446744073709551616
+    write-fits l =
+        let e = past-is (getD s 2 0) (w .here .at) s write-room (w .rows) (asked .is-rows) (w .here .at + 4 + 16 * w .rows) refl in
+        omega (arith, e, write-room .room)
+
+    pub write-on-charged : (there : Cursor) → there .at ≡ w .here .at + 4 + 16 * w .rows → (d′ : List ℕ)
         → TokenIs (getD s 2 0) (w .z .n) (w .k) g s (w .here .at) d (w .here .at + (4 + 16 * schemeOf (getD s 2 0) .stored)) d′ → (r : Walk)
-        → Onward (getD s 2 0) (w .k) (w .z) there r → WriteLeads s w g d r d′
+        → Onward (getD s 2 0) (w .k) (w .z) there (w .rows) r → WriteLeads s w g d r d′
     write-on-charged there e d′ is r next =
-        write-on s w g d d′ there (rw (past-is (getD s 2 0) (w .here .at) s write-room rows is-rows (there .at) e) is) r next
+        write-on s w g d d′ there (rw (past-is (getD s 2 0) (w .here .at) s write-room (w .rows) (asked .is-rows) (there .at) e) is) (asked .is-rows) r next
 
-pub ruleset write-cases = (write-on-free, write-room, write-on-charged, charge-cases)
+pub ruleset write-cases = (write-on-free, write-room, write-fits, write-on-charged, charge-cases)
 
 -- what is lent
 module _ (t k s d : List ℕ) (w : Walk) (g : Gate) (asked : Writes t k s d w g) where

@@ -44,7 +44,7 @@ later j p h e = let other : p ≡ j → ⊥ = λ i. neither e (eq-eqb p j i) in 
 
 -- ---- what a turn asks, of any circuit
 module _ (c ts s o : List ℕ) (left : ℕ) (w : Walk) (d : List ℕ) (st : Stands c ts s o left w d) where
-  tries : w .pass ≡ 0 → Tries w
+  tries : w .pass ≡ 0 → Tries s w
   tries e =
       let t = st .pass-0 e in
       let held = header-holds c (t .head) .sizes in
@@ -56,6 +56,7 @@ module _ (c ts s o : List ℕ) (left : ℕ) (w : Walk) (d : List ℕ) (st : Stan
           charged-few = rw (t .counted) (omega (arith, charges-le (tabulate (w .k) (gateAt c)), tabulate-length (w .k) (gateAt c)));
         };
         near = t .near;
+        is-rows = st .rows (omega (arith, e));
       }
 
   few-accepted : w .pass ≤ 2 → Accepted c (w .z) → Few (w .k) (w .z) (w .z .q)
@@ -69,7 +70,7 @@ module _ (c ts s o : List ℕ) (left : ℕ) (w : Walk) (d : List ℕ) (st : Stan
       }
 
   module _ (g : Gate) (is : GateIs c (w .k) g) where
-    checks : w .pass ≡ 1 → Checks ts s (w .k) (w .z) (w .here .at + charge (kindOf (g .code)) * (4 + 16 * rowsStored (getD s 2 0)))
+    checks : w .pass ≡ 1 → Checks ts s (w .k) (w .z) (w .rows) (w .here .at + charge (kindOf (g .code)) * (4 + 16 * w .rows))
     checks e =
         let t = st .pass-1 e in
         let known = t .known .circuit in
@@ -77,9 +78,10 @@ module _ (c ts s o : List ℕ) (left : ℕ) (w : Walk) (d : List ℕ) (st : Stan
         let go : w .pass ≤ 2 = omega (arith, e) in
         record {
           few = few-accepted go known;
+          is-rows = st .rows go;
           tokens = rw (is-n c (w .z) known) (t .tokens);
           header = file .header;
-          room = rw (is .is-g, t .rows .placed, is-m c (w .z) known) (row-room c s (file .whole) (w .k) (st .more go));
+          room = rw (st .rows go, is .is-g, t .rows .placed, is-m c (w .z) known) (row-room c s (file .whole) (w .k) (st .more go));
         }
 
     writes : w .pass ≡ 2 → (t k : List ℕ) → Lent t k → Writes t k s d w g
@@ -93,6 +95,7 @@ module _ (c ts s o : List ℕ) (left : ℕ) (w : Walk) (d : List ℕ) (st : Stan
         record {
           lent = lent;
           few = few-accepted go known;
+          is-rows = st .rows go;
           header = omega (arith, start .whole);
           start = rw (is-n c (w .z) known) (step-token (getD s 2 0) c (inputs c) (w .k) s (w .here .at) d step g (is .is-g));
         }
@@ -138,12 +141,12 @@ module _ (n m : ℕ) (gs : List Gate) (ts s o : List ℕ) where
 
     -- the limits hold, or they do not
     starts : length gs ≤ 65535 → sizesHold n m (length gs) ≡ true → (w : Walk)
-        → GoesTo 0 0 (record { n = n; m = m; q = length gs; p = 0 }) (record { at = 9 }) w → Stands (circuitBytes n m gs) ts s o (3 * length gs) w o
+        → GoesTo 0 0 (record { n = n; m = m; q = length gs; p = 0 }) (record { at = 9 }) (rowsStored (getD s 2 0)) w → Stands (circuitBytes n m gs) ts s o (3 * length gs) w o
     unfolding refuse firstOf charges
     starts h e w g =
         let head : headVerdict (circuitBytes n m gs) ≡ fine = rw e at (head-is h) in
         let held = header-holds (circuitBytes n m gs) head .sizes in
-        goes-0 (circuitBytes n m gs) ts s o (3 * length gs) w o 0 _ _ (omega (arith, held .m-low, held .m-high)) g
+        goes-0 (circuitBytes n m gs) ts s o (3 * length gs) w o 0 _ _ _ refl (omega (arith, held .m-low, held .m-high)) g
         (record {
           head = head;
           is-n = sym (inputs-made n m gs n-low m-low h);
@@ -165,7 +168,7 @@ module _ (n m : ℕ) (gs : List Gate) (ts s o : List ℕ) where
         let head : headVerdict (circuitBytes n m gs) ≡ refused 3 2 = rw e at (head-is h) in
         refuses (circuitBytes n m gs) ts s o (3 * length gs) w o Limits ended refl (rw (evaluate-verdict (circuitBytes n m gs) ts s (length o), head))
 
-    pub begins : (w : Walk) → Begun n m (length gs) w → Good (3 * length gs) w o
+    pub begins : (w : Walk) → Begun n m (length gs) s w → Good (3 * length gs) w o
     begins w b = record {
       long = refl;
       few = λ h. first h (sizesHold n m (length gs)) refl;
@@ -188,12 +191,12 @@ module _ (n m : ℕ) (gs : List Gate) (ts s o : List ℕ) where
       gate-is go fits = record { is-g = sym (gate-made n m gs (w .k) (within go) fits); mark = mark-made n m gs (w .k) (within go) }
 
       -- what a turn of each pass asks
-      pub asks-0 : w .pass ≡ 0 → Tries w
+      pub asks-0 : w .pass ≡ 0 → Tries s w
       asks-0 e = tries (circuitBytes n m gs) ts s o left w d (good .few (goes-few left w d good (omega (arith, e)))) e
 
       module _ (fits : GateFits (getD gs (w .k) noGate)) where
         pub asks-1 : w .pass ≡ 1
-            → Checks ts s (w .k) (w .z) (w .here .at + charge (kindOf (getD gs (w .k) noGate .code)) * (4 + 16 * rowsStored (getD s 2 0)))
+            → Checks ts s (w .k) (w .z) (w .rows) (w .here .at + charge (kindOf (getD gs (w .k) noGate .code)) * (4 + 16 * w .rows))
         asks-1 e =
             let go : w .pass ≤ 2 = omega (arith, e) in
             checks (circuitBytes n m gs) ts s o left w d (good .few (goes-few left w d good go)) (getD gs (w .k) noGate) (gate-is go fits) e

@@ -30,12 +30,13 @@ pub record Lent (t k : List ℕ) : Type 0 where
 
 -- ---- the walk's steps
 
--- on to gate k of a pass
-pub record GoesTo (pass k : ℕ) (z : Sizes) (here : Cursor) (w : Walk) : Type 0 where
+-- on to gate k of a pass, with so many rows of a charged gate
+pub record GoesTo (pass k : ℕ) (z : Sizes) (here : Cursor) (rows : ℕ) (w : Walk) : Type 0 where
   pub is-pass : w .pass ≡ pass
   pub is-k : w .k ≡ k
   pub is-z : w .z ≡ z
   pub is-here : w .here ≡ here
+  pub is-rows : w .rows ≡ rows
 
 -- it is over
 pub record Ended (a : Evaluated) (w : Walk) : Type 0 where
@@ -43,13 +44,13 @@ pub record Ended (a : Evaluated) (w : Walk) : Type 0 where
   pub answered : w .answer ≡ a
 
 -- 3: "more than 65,535 records", or sizes that break a limit
-pub record Begun (n m q : ℕ) (w : Walk) : Type 0 where
-  pub goes : (leb q 65535 && sizesHold n m q) ≡ true → GoesTo 0 0 (record { n = n; m = m; q = q; p = 0 }) (record { at = 9 }) w
+pub record Begun (n m q : ℕ) (s : List ℕ) (w : Walk) : Type 0 where
+  pub goes : (leb q 65535 && sizesHold n m q) ≡ true → GoesTo 0 0 (record { n = n; m = m; q = q; p = 0 }) (record { at = 9 }) (rowsStored (getD s 2 0)) w
   pub stops : (leb q 65535 && sizesHold n m q) ≡ false → Ended (Evaluated.Refused Limits) w
 
 -- the token of gate k is written: on to the next gate, or over
-pub record Onward (scheme k : ℕ) (z : Sizes) (there : Cursor) (w : Walk) : Type 0 where
-  pub goes : k + 1 < z .q → GoesTo 2 (k + 1) z there w
+pub record Onward (scheme k : ℕ) (z : Sizes) (there : Cursor) (rows : ℕ) (w : Walk) : Type 0 where
+  pub goes : k + 1 < z .q → GoesTo 2 (k + 1) z there rows w
   pub stops : z .q ≤ k + 1 → Ended (Evaluated.Done (z .p * schemeOf scheme .evaluateCalls)) w
 
 -- g is gate k of the circuit, and its record has its mark
@@ -101,6 +102,7 @@ pub record Written (c ts s o : List ℕ) (left k : ℕ) (z : Sizes) (at : ℕ) (
 pub record Stands (c ts s o : List ℕ) (left : ℕ) (w : Walk) (d : List ℕ) : Type 0 where
   pub passes : w .pass ≤ 3
   pub more : w .pass ≤ 2 → w .k < gates c
+  pub rows : w .pass ≤ 2 → w .rows ≡ rowsStored (getD s 2 0)
   pub pass-0 : w .pass ≡ 0 → Tried c s o left (w .k) (w .z) (w .here .at) d
   pub pass-1 : w .pass ≡ 1 → Checked c ts s o left (w .k) (w .z) (w .here .at) d
   pub pass-2 : w .pass ≡ 2 → Written c ts s o left (w .k) (w .z) (w .here .at) d
@@ -115,22 +117,24 @@ pub record Few (k : ℕ) (z : Sizes) (most : ℕ) : Type 0 where
   pub outputs-few : z .m ≤ z .q
   pub charged-few : z .p ≤ most
 
--- past the row record of a gate of charge x: the index itself for a free gate; for a charged one past its record, which has its mark and the wire
--- number that is due there, or 0; no further than four rows on
-pub record RowPassed (s : List ℕ) (at x due past : ℕ) : Type 0 where
+-- past the row record, of so many rows, of a gate of charge x: the index itself for a free gate; for a charged one past its record, which has its mark and the wire
+-- number that is due there, or 0
+pub record RowPassed (s : List ℕ) (at rows x due past : ℕ) : Type 0 where
   pub free : x ≡ 0 → past ≡ at
   pub found : (x ≡ 0 → ⊥) → (past ≡ 0 → ⊥) → rowRecordAt s at due ≡ true
-  pub gone : (x ≡ 0 → ⊥) → (past ≡ 0 → ⊥) → past ≡ at + 4 + 16 * rowsStored (getD s 2 0)
-  pub near : past ≤ at + 68
+  pub gone : (x ≡ 0 → ⊥) → (past ≡ 0 → ⊥) → past ≡ at + 4 + 16 * rows
+  pub near : past ≤ at + 4 + 16 * rows
 
 -- pass 0 at a gate: no count overflows, nor a place past its row record
-pub record Tries (w : Walk) : Type 0 where
+pub record Tries (s : List ℕ) (w : Walk) : Type 0 where
   pub few : Few (w .k) (w .z) (w .k)
   pub near : w .here .at ≤ 9 + 68 * w .k
+  pub is-rows : w .rows ≡ rowsStored (getD s 2 0)
 
 -- past the row record of gate k, at an index, there is room for the last record
-pub record Checks (ts s : List ℕ) (k : ℕ) (z : Sizes) (at : ℕ) : Type 0 where
+pub record Checks (ts s : List ℕ) (k : ℕ) (z : Sizes) (rows at : ℕ) : Type 0 where
   pub few : Few k z (z .q)
+  pub is-rows : rows ≡ rowsStored (getD s 2 0)
   pub tokens : length ts ≡ 16 * z .n
   pub header : 9 ≤ length s
   pub room : at + 2 + z .m ≤ length s
@@ -139,6 +143,7 @@ pub record Checks (ts s : List ℕ) (k : ℕ) (z : Sizes) (at : ℕ) : Type 0 wh
 pub record Writes (t k s d : List ℕ) (w : Walk) (g : Gate) : Type 0 where
   pub lent : Lent t k
   pub few : Few (w .k) (w .z) (w .z .q)
+  pub is-rows : w .rows ≡ rowsStored (getD s 2 0)
   pub header : 9 ≤ length s
   pub start : TokenStart (getD s 2 0) (w .z .n) (w .k) g s (w .here .at) d
 

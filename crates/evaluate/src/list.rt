@@ -43,10 +43,11 @@ pub struct Walk {
     pub z: Sizes, // the sizes; p is counted in pass 0
     pub here: Cursor, // where the next row record is due; in pass 0 place 0, once one was not right
     pub answer: Evaluated, // if it is over
+    pub rows: usize, // of a charged gate, by the material's scheme byte: worked out once, before the first gate
 }
 
 // It is over: this is the answer.
-fn ended(k: usize, z: Sizes, here: Cursor, answer: Evaluated) -> Walk
+fn ended(k: usize, z: Sizes, here: Cursor, rows: usize, answer: Evaluated) -> Walk
     ensures { λ r. ⌜ Ended answer r ⌝ }
 {
     Walk {
@@ -55,12 +56,13 @@ fn ended(k: usize, z: Sizes, here: Cursor, answer: Evaluated) -> Walk
         z,
         here,
         answer,
+        rows,
     }
 }
 
 // On to gate k of a pass.
-fn go_to(pass: u8, k: usize, z: Sizes, here: Cursor) -> Walk
-    ensures { λ r. ⌜ GoesTo pass k z here r ⌝ }
+fn go_to(pass: u8, k: usize, z: Sizes, here: Cursor, rows: usize) -> Walk
+    ensures { λ r. ⌜ GoesTo pass k z here rows r ⌝ }
 {
     Walk {
         pass,
@@ -68,32 +70,44 @@ fn go_to(pass: u8, k: usize, z: Sizes, here: Cursor) -> Walk
         z,
         here,
         answer: Evaluated::Done(0),
+        rows,
     }
 }
 
+// The rows of a charged gate, by the material's scheme byte; where there is none, as for byte 0.
+fn scheme_rows(material: &[u8]) -> usize
+    ensures { λ r. ⌜ r ≡ rowsStored (getD (now (material .entry)) 2 0) ⌝ }
+{
+    if material.len() <= 2 {
+        return rows_stored(0);
+    }
+    rows_stored(material[2])
+}
+
 // Before the first gate: 3, for q records.
-pub fn begin(n: u16, m: u16, q: usize) -> Walk
-    ensures { λ r. ⌜ Begun n m q r ⌝ }
+pub fn begin(n: u16, m: u16, q: usize, material: &[u8]) -> Walk
+    ensures { λ r. ⌜ Begun n m q (now (material .entry)) r ⌝ }
 {
     let n = n as usize;
     let m = m as usize;
     let z = Sizes { n, m, q, p: 0 };
     let first = Cursor::first();
+    let rows = scheme_rows(material);
     if 65535 < q {
-        return ended(0, z, first, Evaluated::Refused(Refusal::Limits));
+        return ended(0, z, first, rows, Evaluated::Refused(Refusal::Limits));
     }
     if !sizes_hold(n, m, q) {
-        return ended(0, z, first, Evaluated::Refused(Refusal::Limits));
+        return ended(0, z, first, rows, Evaluated::Refused(Refusal::Limits));
     }
-    go_to(0, 0, z, first)
+    go_to(0, 0, z, first, rows)
 }
 
 // Past the row record of a gate of charge x, if its mark and the wire number that is due stand here; else place 0, where a right
 // material has its header's mark and so no row record. A free gate has none. For any bytes; whether the rows lie within them is not
 // asked, since a material of the right length has all of them.
-fn row_passed(material: &[u8], here: Cursor, x: usize, due: Wire) -> Cursor
-    requires { ⌜ here .at + 68 < 18446744073709551616 ⌝ }
-    ensures { λ r. ⌜ RowPassed (now (material .entry)) (here .at) x (due .0) (r .at) ⌝ }
+fn row_passed(material: &[u8], here: Cursor, rows: usize, x: usize, due: Wire) -> Cursor
+    requires { ⌜ here .at + 4 + 16 * rows < 18446744073709551616 ⌝ }
+    ensures { λ r. ⌜ RowPassed (now (material .entry)) (here .at) rows x (due .0) (r .at) ⌝ }
 {
     if x == 0 {
         return here;
@@ -102,7 +116,7 @@ fn row_passed(material: &[u8], here: Cursor, x: usize, due: Wire) -> Cursor
         return Cursor { at: 0 };
     }
     if is_row(material, here.at, due) {
-        return here.past(rows_stored(material[2]));
+        return here.past(rows);
     }
     Cursor { at: 0 }
 }
@@ -114,41 +128,49 @@ fn gate_tried(
     z: Sizes,
     here: Cursor,
     there: Cursor,
+    rows: usize,
     tokens: &[u8],
     material: &[u8],
 ) -> Walk
-    requires { ⌜ Few k z (k + 1) ⌝ }
+    requires { ⌜ (Few k z (k + 1)) × (rows ≡ rowsStored (getD (now material) 2 0)) ⌝ }
     ensures { λ r. ⌜ TriedLeads (now (tokens .entry)) (now (material .entry)) k z (here .at) (there .at) r ⌝ }
 {
     let next = k + 1;
     if next < z.q {
-        return go_to(0, next, z, there);
+        return go_to(0, next, z, there, rows);
     }
     let len = tokens.len();
     let list = 16 * z.n;
     if len != list {
-        return ended(k, z, here, Evaluated::Refused(Refusal::TokensLength(len)));
+        return ended(
+            k,
+            z,
+            here,
+            rows,
+            Evaluated::Refused(Refusal::TokensLength(len)),
+        );
     }
     match check_file(material, z) {
-        Ran::Refused(f) => ended(k, z, here, Evaluated::Refused(f)),
+        Ran::Refused(f) => ended(k, z, here, rows, Evaluated::Refused(f)),
         Ran::Done => {
             if here.at == 0 {
-                return go_to(1, 0, z, Cursor::first());
+                return go_to(1, 0, z, Cursor::first(), rows);
             }
-            go_to(1, k, z, here)
+            go_to(1, k, z, here, rows)
         }
     }
 }
 
 // Pass 0 at gate g: 6 and 7, and the charged gates are counted.
 pub fn try_gate(s: Walk, g: Gate, tokens: &[u8], material: &[u8]) -> Walk
-    requires { ⌜ Tries s ⌝ }
+    requires { ⌜ Tries (now material) s ⌝ }
     ensures { λ r. ⌜ TryLeads (now (tokens .entry)) (now (material .entry)) s g r ⌝ }
 {
     let k = s.k;
     let z = s.z;
     let n = z.n;
     let here = s.here;
+    let rows = s.rows;
     let own = Wire((n + k + 1) as u16);
     match read_gate(own, g) {
         GateRead::Fine(x) => {
@@ -158,10 +180,10 @@ pub fn try_gate(s: Walk, g: Gate, tokens: &[u8], material: &[u8]) -> Walk
                 q: z.q,
                 p: z.p + x,
             };
-            let there = row_passed(material, here, x, own);
-            gate_tried(k, counted, here, there, tokens, material)
+            let there = row_passed(material, here, rows, x, own);
+            gate_tried(k, counted, here, there, rows, tokens, material)
         }
-        GateRead::Fault(f) => ended(k, z, here, Evaluated::Refused(f)),
+        GateRead::Fault(f) => ended(k, z, here, rows, Evaluated::Refused(f)),
     }
 }
 
@@ -170,59 +192,67 @@ fn record_checked(
     k: usize,
     z: Sizes,
     there: Cursor,
+    rows: usize,
     tokens: &[u8],
     material: &[u8],
     wires: &mut [u8],
 ) -> Walk
-    requires { ⌜ Checks (now tokens) (now material) k z (there .at) ⌝ }
+    requires { ⌜ Checks (now tokens) (now material) k z rows (there .at) ⌝ }
     ensures { λ r. ⌜ CheckedLeads (now (tokens .entry)) (now (material .entry)) k z (there .at) (now (wires .entry)) r (now (wires .exit)) ⌝ }
 {
     let next = k + 1;
     if next < z.q {
-        return go_to(1, next, z, there);
+        return go_to(1, next, z, there, rows);
     }
     match check_last(material, z.m, there.at) {
-        Ran::Refused(f) => ended(k, z, there, Evaluated::Refused(f)),
+        Ran::Refused(f) => ended(k, z, there, rows, Evaluated::Refused(f)),
         Ran::Done => {
             let bytes = 16 * (z.n + z.q);
             if wires.len() < bytes {
-                return ended(k, z, there, Evaluated::Refused(Refusal::Room(bytes)));
+                return ended(k, z, there, rows, Evaluated::Refused(Refusal::Room(bytes)));
             }
             copy_front(tokens, wires);
-            go_to(2, 0, z, Cursor::first())
+            go_to(2, 0, z, Cursor::first(), rows)
         }
     }
 }
 
 // Pass 1 at gate g: 17.
 pub fn check_record(s: Walk, g: Gate, tokens: &[u8], material: &[u8], wires: &mut [u8]) -> Walk
-    requires { ⌜ Checks (now tokens) (now material) (s .k) (s .z) (s .here .at + charge (kindOf (g .code)) * (4 + 16 * rowsStored (getD (now material) 2 0))) ⌝ }
+    requires { ⌜ Checks (now tokens) (now material) (s .k) (s .z) (s .rows) (s .here .at + charge (kindOf (g .code)) * (4 + 16 * s .rows)) ⌝ }
     ensures { λ r. ⌜ CheckLeads (now (tokens .entry)) (now (material .entry)) s g (now (wires .entry)) r (now (wires .exit)) ⌝ }
 {
     let k = s.k;
     let z = s.z;
     let here = s.here;
+    let rows = s.rows;
     if code_charge(g.code) == 0 {
-        return record_checked(k, z, here, tokens, material, wires);
+        return record_checked(k, z, here, rows, tokens, material, wires);
     }
     let due = Wire((z.n + k + 1) as u16);
     if !is_row(material, here.at, due) {
-        return ended(k, z, here, Evaluated::Refused(Refusal::RowRecord(due)));
+        return ended(
+            k,
+            z,
+            here,
+            rows,
+            Evaluated::Refused(Refusal::RowRecord(due)),
+        );
     }
-    let there = here.past(rows_stored(material[2]));
-    record_checked(k, z, there, tokens, material, wires)
+    let there = here.past(rows);
+    record_checked(k, z, there, rows, tokens, material, wires)
 }
 
 // The token of gate k is written. After the last the calls of π are the answer.
-fn token_written(scheme: u8, k: usize, z: Sizes, there: Cursor) -> Walk
+fn token_written(scheme: u8, k: usize, z: Sizes, there: Cursor, rows: usize) -> Walk
     requires { ⌜ Few k z (z .q) ⌝ }
-    ensures { λ r. ⌜ Onward scheme k z there r ⌝ }
+    ensures { λ r. ⌜ Onward scheme k z there rows r ⌝ }
 {
     let next = k + 1;
     if next < z.q {
-        return go_to(2, next, z, there);
+        return go_to(2, next, z, there, rows);
     }
-    ended(k, z, there, Evaluated::Done(calls_made(scheme, z.p)))
+    ended(k, z, there, rows, Evaluated::Done(calls_made(scheme, z.p)))
 }
 
 // Pass 2 at gate g: its token.
@@ -239,13 +269,14 @@ pub fn write_next(
 {
     let k = s.k;
     let z = s.z;
+    let rows = s.rows;
     let scheme = material[2];
     if code_charge(g.code) == 0 {
         write_free(z.n, k, g, wires);
-        return token_written(scheme, k, z, s.here);
+        return token_written(scheme, k, z, s.here, rows);
     }
     write_charged(t, w, scheme, z.n, k, g, material, s.here, wires);
-    token_written(scheme, k, z, s.here.past(rows_stored(scheme)))
+    token_written(scheme, k, z, s.here.past(rows), rows)
 }
 
 // The answer at the end of the walk.
@@ -270,7 +301,7 @@ pub fn walk_gates(
     requires { ⌜ Lent (now t) (now w) ⌝ }
     ensures { λ r. ⌜ EvaluateGatesIs n m (now (gates .entry)) (now (tokens .entry)) (now (material .entry)) (now (wires .entry)) (evaluatedOf r) (now (wires .exit)) ⌝ }
 {
-    let mut s = begin(n, m, gates.len());
+    let mut s = begin(n, m, gates.len(), material);
     while s.pass == 0 {
         let k = s.k;
         s = try_gate(s, gates[k], tokens, material);

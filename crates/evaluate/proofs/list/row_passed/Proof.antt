@@ -6,4 +6,4 @@ use Rattle.evaluate.proofs.list.row_passed.Tie as tie
 pub row-passed-spec : {M : Type 1} → statement M
 row-passed-spec =
     tie.close
-    (tie.spec (λ c. search passed-cases) (λ c. search needs) (λ c. search passed-cases) (λ c κs. search needs) (λ c. search needs) (λ c κs. search needs) (λ c κs. search needs) (λ c. search passed-cases) (λ c. search passed-cases))
+    (tie.spec (λ c. search passed-cases) (λ c. search needs) (λ c. search passed-cases) (λ c κs. search needs) (λ c κs. search needs) (λ c. search passed-cases) (λ c. search passed-cases))

@@ -57,7 +57,6 @@ use denote.Triple.Walked.{says, needs, Stays, stay-none-ref, stay-none-slice, st
 use Rattle.model.specs.declared.Gate.{Gate}
 use Rattle.model.specs.declared.Evaluated.{Evaluated}
 use Rattle.model.specs.Circuit.{kindOf, charge}
-use Rattle.model.specs.Material.{rowsStored}
 use Rattle.model.specs.Operations.{evaluatedOf, EvaluateGatesIs}
 use Rattle.model.proofs.Gate as T
 use Rattle.model.proofs.Gate.Laws as T′
@@ -298,19 +297,37 @@ module _ {M : Type 1} (𝓤 : URA M) (H : Heap 𝓤) (A : Atoms 𝓤) (W : Given
       frame ! $ done !
 
   -- ---- the call of `begin`
-  abbrev to-begin : Begin 𝓤 H A mem run .Ghost
-  to-begin = ((tt, tt, tt, (n, (m, (length gs, tt))), (vint w16 n ∷ [], (vint w16 m ∷ [], (vint w64 (length gs) ∷ [], tt)))), tt)
+  abbrev args-begin : ℕ × (ℕ × (ℕ × (RefT (List ℕ) × Unit {0})))
+  args-begin = (n, (m, (length gs, (xm, tt))))
 
-  goes-begin : n < 2 ^ 16 → m < 2 ^ 16 → length gs < 2 ^ 64 → ent 𝓤 (sem 𝓤 H A ftrue) (Begin 𝓤 H A mem run .pre to-begin)
+  abbrev to-begin : Begin 𝓤 H A mem run .Ghost
+  to-begin = (((κ₄, tt), (q₄, tt), tt, args-begin, (vint w16 n ∷ [], (vint w16 m ∷ [], (vint w64 (length gs) ∷ [], (vm ∷ [], tt))))), tt)
+
+  abbrev lives-begin : Item 𝓤
+  lives-begin = ‵ (flft κ₄ q₄) ⊛ ‵ ftrue
+
+  abbrev asked-begin : Item 𝓤
+  asked-begin = ‵ OwnM ⊛ ‵ (flft κ₄ q₄)
+
+  goes-begin : n < 2 ^ 16 → m < 2 ^ 16 → length gs < 2 ^ 64 → ent 𝓤 (⋆ 𝓤 H A (asked-begin ∷ [])) (Begin 𝓤 H A mem run .pre to-begin)
   goes-begin n-fits m-fits g-fits =
-      qed W (‵ ftrue ∷ []) ∵ nothing ! $
+      qed W (asked-begin ∷ []) ∵
+      split ! $
+      nothing ! $
+      move ! (2 ∷ 0 ∷ []) $
+      join ! $
+      nothing ! $
+      move ! (2 ∷ 0 ∷ []) $
+      fjoin ! $
       owned ! usize (Is usize) (uint-makes 𝓤 H A W w64) (length gs) _ (refl, g-fits) $ fjoin ! $
       owned ! u16 (Is u16) (uint-makes 𝓤 H A W w16) m _ (refl, m-fits) $ fjoin ! $
       owned ! u16 (Is u16) (uint-makes 𝓤 H A W w16) n _ (refl, n-fits) $ fjoin ! $
-      move ! (1 ∷ 0 ∷ []) $ join ! $ nothing ! $ move ! (1 ∷ 0 ∷ []) $ frame ! $ done !
+      move ! (1 ∷ 0 ∷ []) $
+      join ! $
+      frame ! $ done !
 
-  began : (r : Walk) → ent 𝓤 (ensured 𝓤 H A begin.ended (begin.clauses 𝓤 H A mem run) tt (n, (m, (length gs, tt))) tt r) (fact 𝓤 (Begun n m (length gs) r))
-  began r = exE 𝓤 _ (λ ws. snd∗ 𝓤 (sem 𝓤 H A (lasts begin.ended tt (n, (m, (length gs, tt))) ws)) (fact 𝓤 (Begun n m (length gs) r)))
+  began : (r : Walk) → ent 𝓤 (ensured 𝓤 H A begin.ended (begin.clauses 𝓤 H A mem run) (κ₄, tt) args-begin tt r) (fact 𝓤 (Begun n m (length gs) (now xm) r))
+  began r = exE 𝓤 _ (λ ws. snd∗ 𝓤 (sem 𝓤 H A (lasts begin.ended (κ₄, tt) args-begin ws)) (fact 𝓤 (Begun n m (length gs) (now xm) r)))
 
   -- ---- the call of `finish`
   abbrev to-finish : Walk → Finish 𝓤 H A mem run .Ghost
@@ -342,7 +359,7 @@ module _ {M : Type 1} (𝓤 : URA M) (H : Heap 𝓤) (A : Atoms 𝓤) (W : Given
   abbrev asked-0 : List ℕ → Item 𝓤
   asked-0 d = (‵ OwnI ⊛ (‵ OwnM ⊛ (‵ (flft κ₃ q₃) ⊛ ‵ (flft κ₄ q₄))))
 
-  goes-0 : (s : Walk) (d : List ℕ) → Tries s → Is S.the-row s (val-of s ∷ []) → Is T.the-row (g-at s) (T′.lowered (g-at s) ∷ [])
+  goes-0 : (s : Walk) (d : List ℕ) → Tries (now xm) s → Is S.the-row s (val-of s ∷ []) → Is T.the-row (g-at s) (T′.lowered (g-at s) ∷ [])
       → ent 𝓤 (⋆ 𝓤 H A (asked-0 d ∷ [])) (Try 𝓤 H A mem run .pre (to-0 s d))
   goes-0 s d asks is p =
       qed W (asked-0 d ∷ []) ∵ says ! asks $
@@ -385,7 +402,7 @@ module _ {M : Type 1} (𝓤 : URA M) (H : Heap 𝓤) (A : Atoms 𝓤) (W : Given
   abbrev asked-1 : ℕ → GName → List ℕ → Item 𝓤
   asked-1 ν δ d = (‵ OwnI ⊛ (‵ OwnM ⊛ (‵ (MutSlice (named 0) (ν ∷ []) u8 .own (out δ d) (vo (length d) ∷ [])) ⊛ (‵ (flft κ₃ q₃) ⊛ (‵ (flft κ₄ q₄) ⊛ ‵ (flft (ν ∷ []) fullShare))))))
 
-  goes-1 : (ν : ℕ) (δ : GName) (s : Walk) (d : List ℕ) → Checks (now xi) (now xm) (s .k) (s .z) (s .here .at + charge (kindOf (g-at s .code)) * (4 + 16 * rowsStored (getD (now xm) 2 0))) → Is S.the-row s (val-of s ∷ []) → Is T.the-row (g-at s) (T′.lowered (g-at s) ∷ [])
+  goes-1 : (ν : ℕ) (δ : GName) (s : Walk) (d : List ℕ) → Checks (now xi) (now xm) (s .k) (s .z) (s .rows) (s .here .at + charge (kindOf (g-at s .code)) * (4 + 16 * s .rows)) → Is S.the-row s (val-of s ∷ []) → Is T.the-row (g-at s) (T′.lowered (g-at s) ∷ [])
       → ent 𝓤 (⋆ 𝓤 H A (asked-1 ν δ d ∷ [])) (Check 𝓤 H A mem run .pre (to-1 ν δ s d))
   goes-1 ν δ s d asks is p =
       qed W (asked-1 ν δ d ∷ []) ∵ says ! asks $
@@ -805,7 +822,7 @@ module _ {M : Type 1} (𝓤 : URA M) (H : Heap 𝓤) (A : Atoms 𝓤) (W : Given
           scaled : package.mir.Val.Fits w64 (s .k * 6)
           scaled = scaled-fits (s .k) (length gs) 6 within (room-g .1)
 
-          asks : Is T.the-row (g-at s) (T′.lowered (g-at s) ∷ []) → Checks (now xi) (now xm) (s .k) (s .z) (s .here .at + charge (kindOf (g-at s .code)) * (4 + 16 * rowsStored (getD (now xm) 2 0)))
+          asks : Is T.the-row (g-at s) (T′.lowered (g-at s) ∷ []) → Checks (now xi) (now xm) (s .k) (s .z) (s .rows) (s .here .at + charge (kindOf (g-at s .code)) * (4 + 16 * s .rows))
           asks p = G.asks-1 n m gs (now xi) (now xm) (now xo) n-fits m-fits (suc left) s d (f .0) (gate-fits (g-at s) p) at-pass
 
           goes-next : Is T.the-row (g-at s) (T′.lowered (g-at s) ∷ []) → (r : Walk) → (zs : Lasts-1) → length (last-1 zs) ≡ length d → CheckLeads (now xi) (now xm) s (g-at s) d r (last-1 zs)
@@ -927,7 +944,7 @@ module _ {M : Type 1} (𝓤 : URA M) (H : Heap 𝓤) (A : Atoms 𝓤) (W : Given
           scaled : package.mir.Val.Fits w64 (s .k * 6)
           scaled = scaled-fits (s .k) (length gs) 6 within (room-g .1)
 
-          asks : Is T.the-row (g-at s) (T′.lowered (g-at s) ∷ []) → Tries s
+          asks : Is T.the-row (g-at s) (T′.lowered (g-at s) ∷ []) → Tries (now xm) s
           asks p = G.asks-0 n m gs (now xi) (now xm) (now xo) n-fits m-fits (suc left) s d (f .0) at-pass
 
           goes-next : Is T.the-row (g-at s) (T′.lowered (g-at s) ∷ []) → (r : Walk) → TryLeads (now xi) (now xm) s (g-at s) r
@@ -979,15 +996,21 @@ module _ {M : Type 1} (𝓤 : URA M) (H : Heap 𝓤) (A : Atoms 𝓤) (W : Given
           split ! $
           move ! (1 ∷ []) $
           split ! $
-          nothing ! $ use1 W (raw (Begin 𝓤 H A mem run .pre to-begin)) (goes-begin n-fits m-fits (room-g .0)) $
-          calls-at ! (fmOf 𝓤 H (W .laws) 𝓣) (Begin 𝓤 H A mem run) known-begin to-begin (and-then ! (load ! (from ! (stop !)) (look ! 67 refl)) (and-then ! (load ! (from ! (stop !)) (look ! 65 refl)) (and-then ! (load ! (from ! (stop !)) (look ! 47 refl)) (no-more !)))) (λ v.
-          use1 W (later (some (λ (r : Walk). (‵ ftrue ⊛ ‵ (S.the-row .own r (v ∷ []))) ⊛ raw (ensured 𝓤 H A begin.ended (begin.clauses 𝓤 H A mem run) tt (n, (m, (length gs, tt))) tt r)))) (id⊢ 𝓤 _) $ await ! tt $ pick ! (λ r.
-          split ! $ move ! (1 ∷ []) $ use1 W (raw (fact 𝓤 (Begun n m (length gs) r))) (began r) $ heard ! (Begun n m (length gs) r) (λ begun. split ! $ drop ! $
+          move ! (9 ∷ []) $
+          use1 W (‵ OwnM ⊛ ‵ OwnM) (shr-slice-copy 𝓤 H A W (named 4) κ₄ u8 .twice xm (vm ∷ [])) $ split ! $
+          move ! (0 ∷ 4 ∷ []) $
+          join ! $
+          use1 W (raw (Begin 𝓤 H A mem run .pre to-begin)) (goes-begin n-fits m-fits (room-g .0)) $
+          calls-at ! (fmOf 𝓤 H (W .laws) 𝓣) (Begin 𝓤 H A mem run) known-begin to-begin (and-then ! (load ! (from ! (stop !)) (look ! 66 refl)) (and-then ! (load ! (from ! (stop !)) (look ! 64 refl)) (and-then ! (load ! (from ! (stop !)) (look ! 46 refl)) (and-then ! (load ! (from ! (stop !)) (look ! 58 refl)) (no-more !))))) (λ v.
+          use1 W (later (some (λ (r : Walk). (lives-begin ⊛ ‵ (S.the-row .own r (v ∷ []))) ⊛ raw (ensured 𝓤 H A begin.ended (begin.clauses 𝓤 H A mem run) (κ₄, tt) args-begin tt r)))) (id⊢ 𝓤 _) $ await ! tt $ pick ! (λ r.
+          split ! $ move ! (1 ∷ []) $ use1 W (raw (fact 𝓤 (Begun n m (length gs) (now xm) r))) (began r) $ heard ! (Begun n m (length gs) (now xm) r) (λ begun. split ! $
+          move ! (1 ∷ []) $
           peeks ! S.the-row (Is S.the-row) (shows 𝓤 H A S.the-row) r (v ∷ []) (λ is. drop ! $
-          land ! (from ! (stop !)) (init ! 54 refl (LL.lawful S.the-type S′.the-laws 𝓤 H A W .typed r _ is .0)) $
-          rewrite ! 54 (λ (u : Val). ‵ (fat fullShare S′.mir l₉ 0 u)) (walk-val r v is) refl $
-          forget ! 46 refl $
-          keep ! (54 ∷ 7 ∷ 0 ∷ 9 ∷ 2 ∷ 10 ∷ 3 ∷ 11 ∷ 4 ∷ 12 ∷ 5 ∷ 13 ∷ 6 ∷ 72 ∷ 70 ∷ 68 ∷ 66 ∷ 64 ∷ 62 ∷ 60 ∷ 58 ∷ 56 ∷ 52 ∷ 50 ∷ 48 ∷ 46 ∷ 44 ∷ 42 ∷ 40 ∷ 38 ∷ 36 ∷ 34 ∷ 32 ∷ 30 ∷ 28 ∷ 26 ∷ 24 ∷ 22 ∷ 20 ∷ 18 ∷ 16 ∷ 14 ∷ 73 ∷ 71 ∷ 69 ∷ 67 ∷ 65 ∷ 63 ∷ 61 ∷ 59 ∷ 57 ∷ 55 ∷ 53 ∷ 51 ∷ 49 ∷ 47 ∷ 45 ∷ 43 ∷ 41 ∷ 39 ∷ 37 ∷ 35 ∷ 33 ∷ 31 ∷ 29 ∷ 27 ∷ 25 ∷ 23 ∷ 21 ∷ 19 ∷ 17 ∷ 15 ∷ []) $
+          split ! $
+          land ! (from ! (stop !)) (init ! 55 refl (LL.lawful S.the-type S′.the-laws 𝓤 H A W .typed r _ is .0)) $
+          rewrite ! 55 (λ (u : Val). ‵ (fat fullShare S′.mir l₉ 0 u)) (walk-val r v is) refl $
+          forget ! 47 refl $
+          keep ! (55 ∷ 9 ∷ 3 ∷ 2 ∷ 0 ∷ 11 ∷ 5 ∷ 12 ∷ 6 ∷ 13 ∷ 7 ∷ 14 ∷ 8 ∷ 73 ∷ 71 ∷ 69 ∷ 67 ∷ 65 ∷ 63 ∷ 61 ∷ 59 ∷ 57 ∷ 53 ∷ 51 ∷ 49 ∷ 47 ∷ 45 ∷ 43 ∷ 41 ∷ 39 ∷ 37 ∷ 35 ∷ 33 ∷ 31 ∷ 29 ∷ 27 ∷ 25 ∷ 23 ∷ 21 ∷ 19 ∷ 17 ∷ 15 ∷ 74 ∷ 72 ∷ 70 ∷ 68 ∷ 66 ∷ 64 ∷ 62 ∷ 60 ∷ 58 ∷ 56 ∷ 54 ∷ 52 ∷ 50 ∷ 48 ∷ 46 ∷ 44 ∷ 42 ∷ 40 ∷ 38 ∷ 36 ∷ 34 ∷ 32 ∷ 30 ∷ 28 ∷ 26 ∷ 24 ∷ 22 ∷ 20 ∷ 18 ∷ 16 ∷ []) $
           by ! (loops-0 (3 * length gs) r (now xo) (G.begins n m gs (now xi) (now xm) (now xo) n-fits m-fits r begun, omega arith, subst (λ (u : Val). Is S.the-row r (u ∷ [])) (walk-val r v is) is))))))
 
     -- the locals are made, and the arguments stored
