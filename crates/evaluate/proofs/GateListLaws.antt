@@ -43,7 +43,7 @@ use Rattle.material.proofs.MaterialLaws.{by-record, by-last, material-file, fil
 use Rattle.evaluate.specs.declared.list.Walk.{Walk}
 use Rattle.evaluate.specs.Answers.{restVerdict}
 use Rattle.evaluate.specs.Gate.{RecordRoom}
-use Rattle.evaluate.specs.Walk.{TokenStart, TokenIs, FreeTokenIs, WiresStart, Walking}
+use Rattle.evaluate.specs.Walk.{TokenIs, FreeTokenIs, WiresStart, Walking}
 use Rattle.evaluate.specs.GateList.{Ended, GoesTo, Begun, Onward, GateIs, RowsRight, Guessed, Tried, Checked, Written, Stands, TriedLeads, TryLeads, CheckedLeads, CheckLeads, WriteLeads, Few, RowPassed, Tries, Checks, Writes}
 use Rattle.evaluate.proofs.ReadyLaws.{evaluate-verdict}
 use Rattle.evaluate.proofs.WalkLaws.{past-is, charged-room, charge-cases, walk-start, walk-turn, walk-end, wires-walk, wires-done}
@@ -51,11 +51,11 @@ use Rattle.evaluate.proofs.EvaluateLaws.{evaluate-start, evaluate-done}
 
 -- ---- scheme_rows, of the rows as they were counted
 
-module _ (s : List ℕ) (rows : ℕ) where
-  pub rows-none : length s ≤ 2 → rows ≡ rowsStored 0 → rows ≡ rowsStored (getD s 2 0)
-  rows-none h e = e ∙ ap rowsStored (sym (List·getD-eq-default s 0 h))
+pub rows-none : (s : List ℕ) (rows : ℕ) → length s ≤ 2 → rows ≡ rowsStored 0 → rows ≡ rowsStored (getD s 2 0)
+rows-none s rows h e = e ∙ ap rowsStored (sym (List·getD-eq-default s 0 h))
 
-pub rows-few : (scheme : ℕ) → rowsStored scheme ≤ 4
+-- a charged gate has at most four
+rows-few : (scheme : ℕ) → rowsStored scheme ≤ 4
 unfolding rowsStored
 rows-few zero = omega arith
 rows-few (suc zero) = omega arith
@@ -514,7 +514,7 @@ module _ (ts s : List ℕ) (w : Walk) (g : Gate) where
 
       pub free-asks : Checks ts s (w .k) (w .z) (w .rows) (w .here .at + charge (kindOf (g .code)) * (4 + 16 * w .rows))
           → Checks ts s (w .k) (w .z) (w .rows) (w .here .at)
-      free-asks a = record { few = a .few; is-rows = a .is-rows; tokens = a .tokens; header = a .header; room = omega (arith, rw free at (a .room)) }
+      free-asks a = record { few = a .few; is-rows = a .is-rows; tokens = a .tokens; room = omega (arith, rw free at (a .room)) }
 
       pub free-passed : (d : List ℕ) (r : Walk) (d′ : List ℕ) → CheckedLeads ts s (w .k) (w .z) (w .here .at) d r d′ → CheckLeads ts s w g d r d′
       free-passed = goes-past (Step.Next (w .here)) (answer-free s (w .here .at) (rowsStored (getD s 2 0)) (g .code) (w .z .n + w .k + 1) free) (w .here) refl
@@ -551,7 +551,7 @@ module _ (ts s : List ℕ) (w : Walk) (g : Gate) where
         module _ (e : not b ≡ false) (there : Cursor) (is-there : there .at ≡ w .here .at + 4 + 16 * w .rows)
             (a : Checks ts s (w .k) (w .z) (w .rows) (w .here .at + charge (kindOf (g .code)) * (4 + 16 * w .rows))) where
           pub charged-past : Checks ts s (w .k) (w .z) (w .rows) (there .at)
-          charged-past = record { few = a .few; is-rows = a .is-rows; tokens = a .tokens; header = a .header; room = rw is-there (whole a) }
+          charged-past = record { few = a .few; is-rows = a .is-rows; tokens = a .tokens; room = rw is-there (whole a) }
 
           pub charged-right : (d : List ℕ) (r : Walk) (d′ : List ℕ) → CheckedLeads ts s (w .k) (w .z) (there .at) d r d′ → CheckLeads ts s w g d r d′
           charged-right =

@@ -80,7 +80,6 @@ module _ (c ts s o : List ℕ) (left : ℕ) (w : Walk) (d : List ℕ) (st : Stan
           few = few-accepted go known;
           is-rows = st .rows go;
           tokens = rw (is-n c (w .z) known) (t .tokens);
-          header = file .header;
           room = rw (st .rows go, is .is-g, t .rows .placed, is-m c (w .z) known) (row-room c s (file .whole) (w .k) (st .more go));
         }
 

@@ -43,7 +43,7 @@ pub record Ended (a : Evaluated) (w : Walk) : Type 0 where
   pub over : w .pass ≡ 3
   pub answered : w .answer ≡ a
 
--- 3: "more than 65,535 records", or sizes that break a limit
+-- 3: "more than 65,535 records", or sizes that break a limit. Else the rows are those of the material's scheme byte
 pub record Begun (n m q : ℕ) (s : List ℕ) (w : Walk) : Type 0 where
   pub goes : (leb q 65535 && sizesHold n m q) ≡ true → GoesTo 0 0 (record { n = n; m = m; q = q; p = 0 }) (record { at = 9 }) (rowsStored (getD s 2 0)) w
   pub stops : (leb q 65535 && sizesHold n m q) ≡ false → Ended (Evaluated.Refused Limits) w
@@ -117,15 +117,15 @@ pub record Few (k : ℕ) (z : Sizes) (most : ℕ) : Type 0 where
   pub outputs-few : z .m ≤ z .q
   pub charged-few : z .p ≤ most
 
--- past the row record, of so many rows, of a gate of charge x: the index itself for a free gate; for a charged one past its record, which has its mark and the wire
--- number that is due there, or 0
+-- past the row record, of so many rows, of a gate of charge x: the index itself for a free gate; for a charged one past its record, which stands there
+-- with its mark and the wire number that is due, or 0
 pub record RowPassed (s : List ℕ) (at rows x due past : ℕ) : Type 0 where
   pub free : x ≡ 0 → past ≡ at
   pub found : (x ≡ 0 → ⊥) → (past ≡ 0 → ⊥) → rowRecordAt s at due ≡ true
   pub gone : (x ≡ 0 → ⊥) → (past ≡ 0 → ⊥) → past ≡ at + 4 + 16 * rows
   pub near : past ≤ at + 4 + 16 * rows
 
--- pass 0 at a gate: no count overflows, nor a place past its row record
+-- pass 0 at a gate: no count overflows, nor the place past its row record, whose rows are those of the scheme byte
 pub record Tries (s : List ℕ) (w : Walk) : Type 0 where
   pub few : Few (w .k) (w .z) (w .k)
   pub near : w .here .at ≤ 9 + 68 * w .k
@@ -136,7 +136,6 @@ pub record Checks (ts s : List ℕ) (k : ℕ) (z : Sizes) (rows at : ℕ) : Type
   pub few : Few k z (z .q)
   pub is-rows : rows ≡ rowsStored (getD s 2 0)
   pub tokens : length ts ≡ 16 * z .n
-  pub header : 9 ≤ length s
   pub room : at + 2 + z .m ≤ length s
 
 -- room for the gate's token; t and k are what is lent

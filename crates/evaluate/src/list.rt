@@ -84,7 +84,7 @@ fn scheme_rows(material: &[u8]) -> usize
     rows_stored(material[2])
 }
 
-// Before the first gate: 3, for q records.
+// Before the first gate: 3, for q records; and the rows.
 pub fn begin(n: u16, m: u16, q: usize, material: &[u8]) -> Walk
     ensures { λ r. ⌜ Begun n m q (now (material .entry)) r ⌝ }
 {
