@@ -1,4 +1,5 @@
-/* measure ROUNDS: times the library and the baselines, in turn in each round, and prints a line of words for each result.
+/* measure ROUNDS [FIRST]: times the library and the baselines, in turn in each round, and prints a line of words for each
+ * result. FIRST is the number of the first round, 0 where it is not given: who is first in a round goes by its number.
  * measure once WORKER OPERATION SCHEME Q: one call, for a count of its instructions. report.py says what the lines mean. */
 #include <stdio.h>
 #include <stdlib.h>
@@ -9,7 +10,7 @@
 #include "rounds.h"
 #include "subject.h"
 
-enum { LARGEST = 60000 };
+enum { LARGEST = 60000, MOST_FIRST = 1000000 };
 
 enum operation { CHECK, GARBLE, EVALUATE };
 static const char *const operation_names[] = {"check", "garble", "evaluate"};
@@ -47,14 +48,17 @@ static const size_t sizes[SIZES] = {1000, 4000, 16000, LARGEST};
 /* Nanoseconds for a charged gate, or for a gate of check: by size, job, worker and round. */
 static double times[SIZES][JOBS][3][MOST_ROUNDS];
 
-/* Every job of a circuit once by each worker, one worker right after the other. */
-static void measure(struct subject *s, double (*of_size)[3][MOST_ROUNDS], unsigned round)
+/* Every job of a circuit once by each worker, one worker right after the other. The first of them finds what another job left
+ * in the caches, so `leader` is first, which is another worker in the next round. */
+static void measure(struct subject *s, double (*of_size)[3][MOST_ROUNDS], unsigned round, unsigned leader)
 {
     for (int job = 0; job < JOBS; job++) {
         enum operation operation = jobs[job].operation;
         double gates = (double)(operation == CHECK ? s->q : s->p);
-        for (unsigned i = 0; i < worker_count(); i++)
+        for (unsigned turn = 0; turn < worker_count(); turn++) {
+            unsigned i = (leader + turn) % worker_count();
             of_size[job][i][round] = time_of(&workers[i], s, operation, jobs[job].scheme) / gates;
+        }
     }
 }
 
@@ -68,7 +72,7 @@ static void print_all(unsigned rounds)
 }
 
 /* A round goes over all circuits and jobs, so that a busy moment of the machine falls on few rounds of each. */
-static void measure_all(unsigned rounds)
+static void measure_all(unsigned rounds, unsigned first)
 {
     struct subject subjects[SIZES];
     agree_on_damage(600);
@@ -78,10 +82,10 @@ static void measure_all(unsigned rounds)
     }
     for (unsigned round = 0; round < rounds; round++)
         for (int size = 0; size < SIZES; size++)
-            measure(&subjects[size], times[size], round);
+            measure(&subjects[size], times[size], round, (first + round) % worker_count());
     print_all(rounds);
     for (uint8_t scheme = 1; scheme <= 3; scheme++)
-        measure_repeated(&subjects[1], scheme, rounds);
+        measure_repeated(&subjects[1], scheme, rounds, first);
     for (int size = 0; size < SIZES; size++)
         free_subject(&subjects[size]);
 }
@@ -108,11 +112,12 @@ int main(int count, char **words)
 {
     if (count == 6 && strcmp(words[1], "once") == 0)
         return run_once(words);
-    unsigned long rounds = count == 2 ? strtoul(words[1], NULL, 10) : 0;
-    if (rounds < 1 || rounds > MOST_ROUNDS) {
-        fputs("usage: measure ROUNDS | measure once WORKER OPERATION SCHEME Q\n", stderr);
+    unsigned long rounds = count == 2 || count == 3 ? strtoul(words[1], NULL, 10) : 0;
+    unsigned long first = count == 3 ? strtoul(words[2], NULL, 10) : 0;
+    if (rounds < 1 || rounds > MOST_ROUNDS || first > MOST_FIRST) {
+        fputs("usage: measure ROUNDS [FIRST] | measure once WORKER OPERATION SCHEME Q\n", stderr);
         return 2;
     }
-    measure_all((unsigned)rounds);
+    measure_all((unsigned)rounds, (unsigned)first);
     return 0;
 }

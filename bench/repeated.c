@@ -9,7 +9,7 @@
 #include "rounds.h"
 #include "weighhare.h"
 
-enum { RUNS = 100 };
+enum { CALLS = 100 };
 
 static weighhare_gate *read_gates(const struct subject *s)
 {
@@ -50,23 +50,36 @@ static void agree_on_forms(struct subject *s, const weighhare_gate *gates)
     free(by_bytes);
 }
 
-void measure_repeated(struct subject *s, uint8_t scheme, unsigned rounds)
+/* The two forms: by the circuit's bytes, and by its gates already read. */
+enum form { BYTES, GATES, FORMS };
+static const char *const form_names[FORMS] = {"bytes", "gates"};
+
+/* The time of one call for a charged gate, the mean of a hundred. */
+static double time_of(struct subject *s, const weighhare_gate *gates, enum form form)
 {
-    static double times[2][MOST_ROUNDS];
+    double start = now();
+    for (int i = 0; i < CALLS; i++) {
+        if (form == BYTES)
+            run_evaluate(&workers[0], s);
+        else
+            run_gates(s, gates);
+    }
+    return (now() - start) / CALLS / (double)s->p;
+}
+
+void measure_repeated(struct subject *s, uint8_t scheme, unsigned rounds, unsigned first)
+{
+    static double times[FORMS][MOST_ROUNDS];
     weighhare_gate *gates = read_gates(s);
     run_garble(&workers[0], s, scheme);
     agree_on_forms(s, gates);
     for (unsigned round = 0; round < rounds; round++) {
-        double start = now();
-        for (int i = 0; i < RUNS; i++)
-            run_evaluate(&workers[0], s);
-        double middle = now();
-        for (int i = 0; i < RUNS; i++)
-            run_gates(s, gates);
-        times[0][round] = (middle - start) / RUNS / (double)s->p;
-        times[1][round] = (now() - middle) / RUNS / (double)s->p;
+        for (unsigned turn = 0; turn < FORMS; turn++) {
+            enum form form = (first + round + turn) % FORMS;
+            times[form][round] = time_of(s, gates, form);
+        }
     }
-    print_rounds("repeated", scheme, s->q, "bytes", times[0], rounds);
-    print_rounds("repeated", scheme, s->q, "gates", times[1], rounds);
+    for (int form = BYTES; form < FORMS; form++)
+        print_rounds("repeated", scheme, s->q, form_names[form], times[form], rounds);
     free(gates);
 }
