@@ -1,4 +1,4 @@
-"""report.py LINES TABLE PLOT: writes the tables (Markdown) and the plot (SVG) of a run of measure."""
+"""report.py LINES TABLE PLOT: writes the tables (Markdown) and the plot (SVG) of the lines that measure printed."""
 
 import sys
 
@@ -8,19 +8,25 @@ from results import CALLS, SCHEMES, WORKERS, Results
 HOW = """# Speed, measured
 
 Written by `bench/run`; the plot is `bench.svg`. The circuit has 128 inputs, 128 outputs and q gates, of which half are charged, in random
-order; a gate's operands are any two wires before it. Each number is the best of {rounds} rounds, in nanoseconds of the process's own
-time. A round goes over all circuits and operations, and at each the library and the baselines have one turn each, one after the
-other, so that what else the machine does meets all of them. A ratio is that of the two bests; beside it is its range over single rounds, without the outer tenths.
-Times differ from machine to machine and from hour to hour; ratios less, instructions hardly.
+order; a gate's operands are any two wires before it. Each number is the best of {rounds} in {runs} of the program, in
+nanoseconds of the process's own time. A round goes over all circuits and operations, and at each the library and the baselines have
+one turn each, one after the other, so that what else the machine does meets all of them; who is first changes from round to round.
+Where a program's memory lies is settled when it starts, and changes times by some percent: hence more than one run. A ratio is that of
+the two bests, over all runs; beside it is its range over single rounds, without the outer tenths. Times differ from machine to machine
+and from hour to hour; ratios less, instructions hardly.
 
 The baselines are the same work in C (`bench/*.c`): the same files in and out, the same refusals tried first. Tables: four tables of
 256 words, the fixed key's schedule made once, two blocks side by side. AES-NI: the processor's instructions, up to four blocks side
 by side. Both take a bit times a block by a mask and use that doubling is linear. Compiled by gcc with `-O3 -march=native`; the library
-is built for plain x86-64. In the same run all that they write was compared with the library's, byte for byte, on each
+is built for plain x86-64. In the same runs all that they write was compared with the library's, byte for byte, on each
 circuit measured and on 600 calls with a byte of an argument changed.
 
 Processor: {processor}. Compiler: {compiler}.
 """
+
+
+def counted(number, noun):
+    return f"{number} {noun}" if number == "1" else f"{number} {noun}s"
 
 
 def table(head, rows):
@@ -78,8 +84,13 @@ def repeated_table(results):
     return table(["ns for a charged gate", "by its bytes", "by its gates already read", "gates : bytes"], rows)
 
 
+def how(about):
+    rounds, runs = counted(about["rounds"], "round"), counted(about["runs"], "run")
+    return HOW.format(rounds=rounds, runs=runs, processor=about["processor"], compiler=about["compiler"])
+
+
 def report(results):
-    parts = [HOW.format(**results.about)]
+    parts = [how(results.about)]
     largest = max(results.sizes())
     parts += [f"## q = {largest:,}", main_table(results, largest)]
     parts += ["## How the cost grows", growth_table(results)]

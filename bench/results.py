@@ -1,4 +1,4 @@
-"""The lines that measure prints, read: what a round took, and what can be said of several rounds."""
+"""The lines that measure prints, read: what a round took, and what can be said of the rounds of several runs."""
 
 SCHEMES = {1: "GaX", 2: "GaXR", 3: "half-gates"}
 WORKERS = {"library": "the library", "tables": "C, AES by tables", "aesni": "C, AES-NI"}
@@ -6,7 +6,8 @@ CALLS = [(operation, scheme) for operation in ("garble", "evaluate") for scheme 
 
 
 class Results:
-    """times[operation, scheme, q][worker]: ns for a charged gate (check: for a gate), a number for each round."""
+    """times[operation, scheme, q][worker]: ns for a charged gate (check: for a gate), a number for each round. Each run of measure
+    adds its rounds, in the same order for each worker."""
 
     def __init__(self, path):
         self.times = {}
@@ -22,7 +23,7 @@ class Results:
             return
         key, worker = (words[1], int(words[2]), int(words[3])), words[4]
         if words[0] == "time":
-            self.times.setdefault(key, {})[worker] = [float(word) for word in words[5:]]
+            self.times.setdefault(key, {}).setdefault(worker, []).extend(float(word) for word in words[5:])
         else:
             self.instructions.setdefault(key, {})[worker] = int(words[5])
 
