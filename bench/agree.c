@@ -70,7 +70,7 @@ static void same(const struct worker *w, const char *what, struct written librar
 static void agree_on_garble(struct subject *s, uint8_t scheme)
 {
     struct written library = all_written(&workers[0], s, scheme);
-    for (unsigned i = 1; i < worker_count(); i++)
+    for (unsigned i = 1; i < worker_count; i++)
         same(&workers[i], "check or garble", library, all_written(&workers[i], s, scheme));
     free(library.bytes);
 }
@@ -78,7 +78,7 @@ static void agree_on_garble(struct subject *s, uint8_t scheme)
 static void agree_on_evaluate(struct subject *s)
 {
     struct written library = all_evaluated(&workers[0], s);
-    for (unsigned i = 1; i < worker_count(); i++)
+    for (unsigned i = 1; i < worker_count; i++)
         same(&workers[i], "evaluate", library, all_evaluated(&workers[i], s));
     free(library.bytes);
 }

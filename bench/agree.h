@@ -1,4 +1,4 @@
-/* That the baselines do the library's work: the same answers and the same bytes. */
+/* That the others do the library's work: the same answers and the same bytes. */
 #ifndef AGREE_H
 #define AGREE_H
 

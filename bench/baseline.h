@@ -1,4 +1,4 @@
-/* The baselines in C: the same operations as the library's, on the same files, with the same refusals. */
+/* What is measured beside the library: the same operations as the library's, on the same files, with the same refusals. */
 #ifndef BASELINE_H
 #define BASELINE_H
 
@@ -20,5 +20,10 @@ evaluate_function tables_evaluate;
 check_function aesni_check;
 garble_function aesni_garble;
 evaluate_function aesni_evaluate;
+
+/* The library with AES by its chained steps (bench/chained); null where the program is linked without it. */
+__attribute__((weak)) check_function chained_check;
+__attribute__((weak)) garble_function chained_garble;
+__attribute__((weak)) evaluate_function chained_evaluate;
 
 #endif

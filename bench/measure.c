@@ -46,17 +46,17 @@ enum { JOBS = sizeof jobs / sizeof jobs[0], SIZES = 4 };
 static const size_t sizes[SIZES] = {1000, 4000, 16000, LARGEST};
 
 /* Nanoseconds for a charged gate, or for a gate of check: by size, job, worker and round. */
-static double times[SIZES][JOBS][3][MOST_ROUNDS];
+static double times[SIZES][JOBS][MOST_WORKERS][MOST_ROUNDS];
 
 /* Every job of a circuit once by each worker, one worker right after the other. The first of them finds what another job left
  * in the caches, so `leader` is first, which is another worker in the next round. */
-static void measure(struct subject *s, double (*of_size)[3][MOST_ROUNDS], unsigned round, unsigned leader)
+static void measure(struct subject *s, double (*of_size)[MOST_WORKERS][MOST_ROUNDS], unsigned round, unsigned leader)
 {
     for (int job = 0; job < JOBS; job++) {
         enum operation operation = jobs[job].operation;
         double gates = (double)(operation == CHECK ? s->q : s->p);
-        for (unsigned turn = 0; turn < worker_count(); turn++) {
-            unsigned i = (leader + turn) % worker_count();
+        for (unsigned turn = 0; turn < worker_count; turn++) {
+            unsigned i = (leader + turn) % worker_count;
             of_size[job][i][round] = time_of(&workers[i], s, operation, jobs[job].scheme) / gates;
         }
     }
@@ -66,7 +66,7 @@ static void print_all(unsigned rounds)
 {
     for (int size = 0; size < SIZES; size++)
         for (int job = 0; job < JOBS; job++)
-            for (unsigned i = 0; i < worker_count(); i++)
+            for (unsigned i = 0; i < worker_count; i++)
                 print_rounds(operation_names[jobs[job].operation], jobs[job].scheme, sizes[size], workers[i].name,
                              times[size][job][i], rounds);
 }
@@ -82,7 +82,7 @@ static void measure_all(unsigned rounds, unsigned first)
     }
     for (unsigned round = 0; round < rounds; round++)
         for (int size = 0; size < SIZES; size++)
-            measure(&subjects[size], times[size], round, (first + round) % worker_count());
+            measure(&subjects[size], times[size], round, (first + round) % worker_count);
     print_all(rounds);
     for (uint8_t scheme = 1; scheme <= 3; scheme++)
         measure_repeated(&subjects[1], scheme, rounds, first);
@@ -94,7 +94,7 @@ static int run_once(char **words)
 {
     struct subject s = make_subject(strtoul(words[5], NULL, 10));
     uint8_t scheme = (uint8_t)strtoul(words[4], NULL, 10);
-    for (unsigned i = 0; i < worker_count(); i++) {
+    for (unsigned i = 0; i < worker_count; i++) {
         for (int operation = CHECK; operation <= EVALUATE; operation++) {
             if (strcmp(words[2], workers[i].name) != 0 || strcmp(words[3], operation_names[operation]) != 0)
                 continue;
@@ -110,6 +110,7 @@ static int run_once(char **words)
 
 int main(int count, char **words)
 {
+    find_workers();
     if (count == 6 && strcmp(words[1], "once") == 0)
         return run_once(words);
     unsigned long rounds = count == 2 || count == 3 ? strtoul(words[1], NULL, 10) : 0;

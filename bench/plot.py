@@ -39,8 +39,10 @@ def legend(workers, y):
 
 
 def bars(results, q):
-    """A group for each call, a bar for each worker; gives the parts and where they end."""
-    workers, left, right = results.workers(), BARS["left"], BARS["right"]
+    """A group for each call, a bar for each worker; gives the parts and where they end. The chained rounds have none: theirs would be
+    so long that the others could not be told apart."""
+    workers = [worker for worker in results.workers() if worker in COLOURS]
+    left, right = BARS["left"], BARS["right"]
     marks = ticks(max(results.best((*call, q), worker) for call in CALLS for worker in workers))
     scale = (right - left) / marks[-1]
     group = 17 * len(workers) + 14

@@ -3,7 +3,7 @@
 import sys
 
 from plot import plot
-from results import CALLS, SCHEMES, WORKERS, Results
+from results import BASELINES, CALLS, SCHEMES, WORKERS, Results
 
 HOW = """# Speed, measured
 
@@ -20,9 +20,15 @@ The baselines are the same work in C (`bench/*.c`): the same files in and out, t
 by side. Both take a bit times a block by a mask and use that doubling is linear. Compiled by gcc with `-O3 -march=native`; the library
 is built for plain x86-64. In the same runs all that they write was compared with the library's, byte for byte, on each
 circuit measured and on 600 calls with a byte of an argument changed.
-
-Processor: {processor}. Compiler: {compiler}.
 """
+
+CHAINED = """Chained rounds: the library once more, made by `bench/chained`, with AES by SubBytes, ShiftRows, MixColumns and AddRoundKey one
+after the other in place of look-ups in the four tables. The body of one function is all that differs in the source, and its contract
+is the same; it names the S-box for each block, which is about a hundredth of its instructions. This form is proved like the library and
+has its turn like a baseline, and what it writes was compared in the same way.
+"""
+
+MACHINE = "Processor: {processor}. Compiler: {compiler}.\n"
 
 
 def counted(number, noun):
@@ -38,18 +44,25 @@ def named(operation, scheme):
     return operation if operation == "check" else f"{operation}, scheme {scheme} ({SCHEMES[scheme]})"
 
 
+def compared(results, key, worker, other):
+    low, high = results.spread(key, worker, other)
+    return f"**{results.ratio(key, worker, other):.2f}** ({low:.2f} to {high:.2f})"
+
+
 def main_table(results, q):
     workers = results.workers()
+    pairs = [("library", other) for other in workers if other in BASELINES]
+    head = ["ns for a charged gate; check: for a gate"] + [WORKERS[worker] for worker in workers]
+    head += [f"library : {WORKERS[other]}" for _, other in pairs]
+    if "chained" in workers:
+        pairs.append(("chained", "library"))
+        head.append("chained rounds : library")
     rows = []
     for operation, scheme in CALLS + [("check", 3)]:
         key = (operation, scheme, q)
         row = [named(operation, scheme)] + [f"{results.best(key, worker):.1f}" for worker in workers]
-        for other in workers[1:]:
-            low, high = results.spread(key, "library", other)
-            row.append(f"**{results.ratio(key, 'library', other):.2f}** ({low:.2f} to {high:.2f})")
-        rows.append(row)
-    head = ["ns for a charged gate; check: for a gate"] + [WORKERS[worker] for worker in workers]
-    return table(head + [f"library : {WORKERS[other]}" for other in workers[1:]], rows)
+        rows.append(row + [compared(results, key, *pair) for pair in pairs])
+    return table(head, rows)
 
 
 def growth_table(results):
@@ -77,20 +90,21 @@ def repeated_table(results):
     rows = []
     for scheme in SCHEMES:
         key = ("repeated", scheme, 4000)
-        low, high = results.spread(key, "gates", "bytes")
-        ratio = f"**{results.ratio(key, 'gates', 'bytes'):.2f}** ({low:.2f} to {high:.2f})"
         bests = [f"{results.best(key, form):.1f}" for form in ("bytes", "gates")]
-        rows.append([named("evaluate", scheme)] + bests + [ratio])
+        rows.append([named("evaluate", scheme)] + bests + [compared(results, key, "gates", "bytes")])
     return table(["ns for a charged gate", "by its bytes", "by its gates already read", "gates : bytes"], rows)
 
 
-def how(about):
-    rounds, runs = counted(about["rounds"], "round"), counted(about["runs"], "run")
-    return HOW.format(rounds=rounds, runs=runs, processor=about["processor"], compiler=about["compiler"])
+def how(results):
+    about = results.about
+    parts = [HOW.format(rounds=counted(about["rounds"], "round"), runs=counted(about["runs"], "run"))]
+    if "chained" in results.workers():
+        parts.append(CHAINED)
+    return parts + [MACHINE.format(**about)]
 
 
 def report(results):
-    parts = [how(results.about)]
+    parts = how(results)
     largest = max(results.sizes())
     parts += [f"## q = {largest:,}", main_table(results, largest)]
     parts += ["## How the cost grows", growth_table(results)]

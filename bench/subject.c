@@ -7,15 +7,19 @@
 
 #include "weighhare.h"
 
-const struct worker workers[3] = {
+struct worker workers[MOST_WORKERS] = {
     {"library", weighhare_check, weighhare_garble, weighhare_evaluate},
     {"tables", tables_check, tables_garble, tables_evaluate},
-    {"aesni", aesni_check, aesni_garble, aesni_evaluate},
 };
 
-unsigned worker_count(void)
+unsigned worker_count = 2;
+
+void find_workers(void)
 {
-    return __builtin_cpu_supports("aes") && __builtin_cpu_supports("ssse3") ? 3 : 2;
+    if (__builtin_cpu_supports("aes") && __builtin_cpu_supports("ssse3"))
+        workers[worker_count++] = (struct worker){"aesni", aesni_check, aesni_garble, aesni_evaluate};
+    if (chained_check != NULL)
+        workers[worker_count++] = (struct worker){"chained", chained_check, chained_garble, chained_evaluate};
 }
 
 static uint64_t state = 88172645463325252u;

@@ -4,7 +4,7 @@
 
 #include "baseline.h"
 
-/* An implementation: the library or a baseline. */
+/* An implementation: the library, its other form, or a baseline. */
 struct worker {
     const char *name;
     check_function *check;
@@ -12,9 +12,12 @@ struct worker {
     evaluate_function *evaluate;
 };
 
-/* The library, the tables, and the processor's instructions where it has them. */
-extern const struct worker workers[3];
-unsigned worker_count(void);
+/* The library, the tables, the processor's instructions where it has them, and the library's chained rounds where they are
+ * linked. The first two are always there; find_workers, called once, finds the others. */
+enum { MOST_WORKERS = 4 };
+extern struct worker workers[MOST_WORKERS];
+extern unsigned worker_count;
+void find_workers(void);
 
 /* A circuit of 128 inputs, 128 outputs and q gates, of which exactly half are charged, in random order; a gate's operands
  * are any two wires before it. With room for its material under any scheme, and a seed. */
