@@ -3,7 +3,7 @@ use mathlib.Core.Path.{_≡_, sym, ap, _∙_}
 use mathlib.Core.List.{List}
 use Prim.Native.Nat.{ℕ, suc, _+_, _-_, _<_, _≤_}
 use native.Mathlib.Omega.{arith}
-use Rattle.model.specs.Aes.{Block, subBytes, shiftRows, addRoundKey, aesRound, rounds, cipher, keyExpansion, fixedKey, aes, π}
+use Rattle.model.specs.Aes.{Block, subBytes, shiftRows, mixColumns, addRoundKey, aesRound, rounds, cipher, keyExpansion, fixedKey, aes, π}
 
 -- what holds of the state s before round r, when s₀ was the state before round 1: it is made from any block b that the first AddRoundKey takes
 -- to s₀
@@ -38,3 +38,24 @@ module _ {w : List ℕ} {s₀ : Block} where
 pub by-fixed-key : (w : List ℕ) (b z : Block) → z ≡ cipher w b → w ≡ keyExpansion fixedKey → z ≡ π b
 unfolding aes π
 by-fixed-key w b z e h = e ∙ ap (λ (k : List ℕ). cipher k b) h
+
+-- the same under any key
+pub by-key : (key : Block) (w : List ℕ) (b z : Block) → z ≡ cipher w b → w ≡ keyExpansion key → z ≡ aes key b
+unfolding aes
+by-key key w b z e h = e ∙ ap (λ (k : List ℕ). cipher k b) h
+
+-- ---- a round from its steps: a, b and c are the states between them
+
+pub round-is : (w : List ℕ) (r : ℕ) (s a b c q : Block) → q ≡ addRoundKey w r c → c ≡ mixColumns b → b ≡ shiftRows a → a ≡ subBytes s → q ≡ aesRound w r s
+unfolding aesRound
+round-is w r s a b c q is-q is-c is-b is-a = rw (is-q, is-c, is-b, is-a)
+
+pub last-is : (w : List ℕ) (s a b q : Block) → q ≡ addRoundKey w 10 b → b ≡ shiftRows a → a ≡ subBytes s → q ≡ addRoundKey w 10 (shiftRows (subBytes s))
+last-is w s a b q is-q is-b is-a = rw (is-q, is-b, is-a)
+
+-- the same of packed columns: a and b are the states after the first two steps and after the third
+pub packed-last-is : (w : List ℕ) (s a b q : Block) → q ≡ b → b ≡ addRoundKey w 10 a → a ≡ shiftRows (subBytes s) → q ≡ addRoundKey w 10 (shiftRows (subBytes s))
+packed-last-is w s a b q is-q is-b is-a = rw (is-q, is-b, is-a)
+
+pub start-is : (w : List ℕ) (x a q : Block) → q ≡ addRoundKey w 0 a → a ≡ x → q ≡ addRoundKey w 0 x
+start-is w x a q is-q is-a = rw (is-q, is-a)
