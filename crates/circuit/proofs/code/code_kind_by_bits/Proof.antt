@@ -1,0 +1,10 @@
+use borrow.Author.Needs.{needs}
+use Rattle.circuit.proofs.CodeLaws.{kind-cases}
+use Rattle.circuit.proofs.code.code_kind_by_bits.Statement.{statement}
+use Rattle.circuit.proofs.code.code_kind_by_bits.Tie as tie
+
+pub code-kind-by-bits-spec : {M : Type 1} → statement M
+code-kind-by-bits-spec =
+    tie.close
+    (tie.spec (λ c κs. search needs) (λ c κs. search kind-cases) (λ c κs. search kind-cases) (λ c κs. search kind-cases) (λ c. search kind-cases)
+    (λ c κs. search needs) (λ c. search kind-cases) (λ c κs. search kind-cases) (λ c. search kind-cases))
