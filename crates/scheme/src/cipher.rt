@@ -73,7 +73,7 @@ fn hash_block(x: Block, i: u64) -> Block
     x.doubled().xor(Block::of_number(i))
 }
 
-// "H(x,i) = π(2x ⊕ i) ⊕ 2x ⊕ i" (01, Scheme 3), of two tokens side by side: two calls of π.
+// "H(x,i) = π(2x ⊕ i) ⊕ 2x ⊕ i" (01, Scheme 3), of two tokens: two calls of π.
 pub fn hash_pair(m: &[u32; 1024], w: &[u8; 176], x: Block, i: u64, y: Block, j: u64) -> Pair
     requires { ⌜ IsTTables (now m) ⌝ }
     requires { ⌜ now w ≡ keyExpansion fixedKey ⌝ }
