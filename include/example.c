@@ -1,40 +1,51 @@
 /*
- * An AND gate garbled, evaluated from its bytes and from a list of gates, and decoded, for each pair of input values; then a
- * refusal. C11, and C++17 too.
+ * An AND gate garbled, evaluated from its bytes and from a list of gates, and decoded, for each pair of input values; then
+ * two refusals. C11, and C++17 too.
  */
+#define _DEFAULT_SOURCE /* explicit_bzero */
 #include "weighhare.h"
 
 #include <stdio.h>
 #include <string.h>
+#include <sys/random.h>
 
 /* 2 inputs, 1 output, 1 gate: wire 3 is wire 1 AND wire 2. */
-static const uint8_t and_gate[15] = {0x43, 0x48, 0, 2, 0, 1, 0, 1, 0x43, 0x47, 0, 1, 0, 2, 8};
+static const uint8_t and_gate[15] = {0x43, 0x48, 0, 2, 0, 1, 0, 1, 0x43, 0x47, 0, 1, 0, 2, WEIGHHARE_AND};
 
 /* The same gate, already read: for an evaluator that runs one circuit many times. */
-static const weighhare_gate and_read[1] = {{1, 2, 8}};
+static const weighhare_gate and_read[1] = {{1, 2, WEIGHHARE_AND}};
 
-/* Says where an operation refused, and gives whether it did. */
+/* The same circuit, but no gate has code 0. */
+static const uint8_t no_gate[15] = {0x43, 0x48, 0, 2, 0, 1, 0, 1, 0x43, 0x47, 0, 1, 0, 2, 0};
+
+/* Says why an operation refused, and where, and gives whether it did. */
 static int refused(const char *operation, uint8_t number, const uint64_t answer[4]) {
     if (number != WEIGHHARE_DONE) {
-        printf("%s: refusal %u, place %llu\n", operation, (unsigned)number, (unsigned long long)answer[0]);
+        printf("%s: refusal %u: %s (%s: %llu)\n", operation, (unsigned)number, weighhare_words(number),
+               weighhare_place_words(number), (unsigned long long)answer[0]);
     }
     return number != WEIGHHARE_DONE;
 }
 
 static int run(uint8_t scheme, uint8_t u, uint8_t v) {
-    /* A real seed comes from the system's random numbers, and is used once. */
-    const uint8_t seed[16] = {1, 2, 3, 4, 5, 6, 7, 8, 9, 10, 11, 12, 13, 14, 15, 16};
     const uint8_t values[2] = {u, v};
-    uint8_t material[80], zeros[3 * 16], ones[2 * 16], tokens[2 * 16], wires[3 * 16], same[3 * 16], bit[1];
+    uint8_t seed[16], material[80], zeros[3 * 16], ones[2 * 16], tokens[2 * 16], wires[3 * 16], same[3 * 16], bit[1];
     uint64_t answer[4];
     size_t length;
 
-    /* The garbler's side. It sends the material, and a token for each input. */
+    /* The garbler's side: a seed for this garbling alone. It sends the material, and a token for each input. */
+    if (getrandom(seed, sizeof seed, 0) != 16) {
+        printf("no seed\n");
+        return 1;
+    }
     if (refused("garble", weighhare_garble(and_gate, sizeof and_gate, seed, sizeof seed, scheme, material, sizeof material,
                                            zeros, sizeof zeros, ones, sizeof ones, answer), answer)) return 1;
     length = (size_t)answer[0];
+    explicit_bzero(seed, sizeof seed);
     if (refused("encode", weighhare_encode(and_gate, sizeof and_gate, values, sizeof values, zeros, 2 * 16, ones, sizeof ones,
                                            tokens, sizeof tokens, answer), answer)) return 1;
+    explicit_bzero(zeros, sizeof zeros);
+    explicit_bzero(ones, sizeof ones);
 
     /* The evaluator's side. The last wire is the output. */
     if (refused("evaluate", weighhare_evaluate(and_gate, sizeof and_gate, tokens, sizeof tokens, material, length, wires,
@@ -44,6 +55,9 @@ static int run(uint8_t scheme, uint8_t u, uint8_t v) {
     if (memcmp(same, wires, sizeof wires) != 0) return 1;
     if (refused("decode", weighhare_decode(and_gate, sizeof and_gate, wires + 2 * 16, 16, material, length, bit, sizeof bit,
                                            answer), answer)) return 1;
+    explicit_bzero(tokens, sizeof tokens);
+    explicit_bzero(wires, sizeof wires);
+    explicit_bzero(same, sizeof same);
     printf("scheme %u: %u AND %u is %u, in %u bytes of material\n", scheme, u, v, bit[0], (unsigned)length);
     return 0;
 }
@@ -57,5 +71,6 @@ int main(void) {
         }
     }
     refused("check of 7 bytes", weighhare_check(and_gate, 7, answer), answer);
+    refused("check of code 0", weighhare_check(no_gate, sizeof no_gate, answer), answer);
     return 0;
 }

@@ -3,25 +3,43 @@
  *
  * A circuit computes bits from bits. The garbler gives each wire two 16-byte tokens, one for 0 and one for 1, and writes
  * the material: what an evaluator who holds one token for each input needs to find the one token of each other wire.
- * docs/FORMATS.md has the bytes of a circuit and of the material, the gate codes and the schemes.
+ * docs/FORMATS.md has the bytes of a circuit and of the material, docs/SCHEMES.md what tokens and rows are.
  *
- * Every function here
- *   - returns 0, or the number of the refusal (WEIGHHARE_.. below): the first condition that holds, in a fixed order;
+ * Every function of the archive
+ *   - returns 0, or the number of the refusal (WEIGHHARE_.. below): the first condition that holds. Conditions are tried
+ *     in rising number, 5 to 7 together as one search over the gates in file order; an operation skips what it has no
+ *     argument for. A condition on several lists or buffers is tried in the order of the arguments;
  *   - sets all four words of `answer`. If it refuses, answer[0] is the refusal's place; else the words are its results.
  *     Words that are not used are 0;
  *   - leaves every output buffer as it was if it refuses, and else writes only the bytes named, at the front;
  *   - takes any bytes and any lengths, and keeps nothing: no memory, no state, no pointer.
+ * weighhare_words and weighhare_place_words, at the end, say in words what a refusal's number and its place mean.
  *
  * What the caller must see to: each pointer is to as many bytes as its length says, readable, and writable for an output
- * buffer; `gates` is to q gates, aligned as uint16_t is; a pointer is not null, even where its length is 0; `answer` is to
- * four words, aligned as uint64_t is; an output buffer and `answer` overlap nothing else that is handed in. Nothing checks
- * this, and nothing holds where it is broken.
+ * buffer; `gates` is to q gates, aligned as uint16_t is; a pointer is not null, even where its length is 0; `answer` is
+ * to four words, aligned as uint64_t is; an output buffer and `answer` overlap nothing else that is handed in. Nothing
+ * checks this, and nothing holds where it is broken.
  *
- * Below n, m, q and p are the circuit's inputs, outputs, gates and charged gates. Wires are numbered from 1: the inputs 1
- * to n, then the gates n+1 to n+q, of which the last m are the outputs. Lists of tokens and of values are in that order.
+ * What is secret, and what the caller must do about it, since nothing here does:
+ *   - The seed is 16 bytes of the system's random numbers, from getrandom(2) or another such source. One seed is for one
+ *     garbling: two garblings from one seed have the same R, the block by which the two tokens of every wire differ.
+ *   - A garbling is for one evaluation. Evaluated on two input lists it shows R wherever two tokens of a wire differ, and
+ *     whoever has R makes each wire's other token from the one.
+ *   - After use the garbler wipes the seed, `zeros` and `ones`, the evaluator its `tokens` and `wires`, and each its own
+ *     values, by a call that a compiler does not drop, such as explicit_bzero. Nothing here wipes anything. What a
+ *     function leaves on the stack is not wiped either.
+ *   - AES by tables is not constant-time: see weighhare_garble and weighhare_evaluate. No function here claims to be.
+ *
+ * Below n, m, q and p are the circuit's inputs, outputs, gates and charged gates. Limits: n is 2 to 4,096, m is 1 to q,
+ * q is at least 1, and n+q is at most 65,535. Wires are numbered from 1: the inputs 1 to n, then the gates n+1 to n+q, of
+ * which the last m are the outputs. A gate's operands a and b are wires: 1 <= a < b < the gate's own wire number. Lists
+ * of tokens and of values are in the order of the wires.
  */
 #ifndef WEIGHHARE_H
 #define WEIGHHARE_H
+
+/* The version of this header, and of the archive and the Rust crate that come with it. The archive itself holds none. */
+#define WEIGHHARE_VERSION "0.3.0"
 
 #include <stddef.h>
 #include <stdint.h>
@@ -30,30 +48,50 @@
 extern "C" {
 #endif
 
-/* What the functions return: 0, or why they refused. In brackets: the refusal's place, which answer[0] gives. */
+/*
+ * What the functions return: 0, or why they refused. In brackets: what the refusal's place is, which answer[0] gives, and
+ * after a colon more about it. Marks are in hexadecimal; offsets count from 0.
+ */
 enum {
     WEIGHHARE_DONE = 0,             /* nothing refused */
     WEIGHHARE_CIRCUIT_SHORT = 1,    /* the circuit has under 8 bytes [its length] */
-    WEIGHHARE_CIRCUIT_MARK = 2,     /* the circuit does not begin with 43 48 [0] */
-    WEIGHHARE_LIMITS = 3,           /* n, m or q breaks a limit [2] */
+    WEIGHHARE_CIRCUIT_MARK = 2,     /* the circuit does not begin with the mark 43 48 [offset: 0] */
+    WEIGHHARE_LIMITS = 3,           /* the circuit's n, m or q breaks a limit [offset: 2] */
     WEIGHHARE_CIRCUIT_LENGTH = 4,   /* the circuit's length is not 8+7q [its length] */
-    WEIGHHARE_GATE_MARK = 5,        /* a gate does not begin with 43 47 [its wire number] */
+    WEIGHHARE_GATE_MARK = 5,        /* a gate does not begin with the mark 43 47 [its wire number] */
     WEIGHHARE_OPERANDS = 6,         /* a gate's operands a and b are not 1 <= a < b < its wire number [its wire number] */
     WEIGHHARE_CODE = 7,             /* a gate's code is neither charged nor free [its wire number] */
     WEIGHHARE_SEED_LENGTH = 8,      /* the seed has not 16 bytes [its length] */
-    WEIGHHARE_VALUES_LENGTH = 9,    /* the value list has not n bytes [its length] */
-    WEIGHHARE_VALUE = 10,           /* a value is neither 0 nor 1 [index of the first, from 0]; in pick, the bit [0] */
-    WEIGHHARE_TOKENS_LENGTH = 11,   /* a token list has the wrong length [length of the first that is wrong]; in pick, the
-                                       lists' lengths differ or are no multiple of 16 [the zero list's length] */
+    WEIGHHARE_VALUES_LENGTH = 9,    /* the value list has not a byte for each input [its length] */
+    WEIGHHARE_VALUE = 10,           /* a value is neither 0 nor 1 [its index: the first, from 0]; in pick, the bit [0] */
+    WEIGHHARE_TOKENS_LENGTH = 11,   /* a token list has the wrong length [its length: the first such]; in pick, the lists'
+                                       lengths differ or are no multiple of 16 [the zero list's length] */
     WEIGHHARE_MATERIAL_SHORT = 12,  /* the material has under 9 bytes [its length] */
-    WEIGHHARE_MATERIAL_MARK = 13,   /* the material does not begin with 47 48 [0] */
+    WEIGHHARE_MATERIAL_MARK = 13,   /* the material does not begin with the mark 47 48 [offset: 0] */
     WEIGHHARE_SCHEME = 14,          /* the scheme, the argument or the material's, is not 1, 2 or 3 [the scheme] */
-    WEIGHHARE_MATERIAL_SIZES = 15,  /* the material's n, m or q is not the circuit's [3] */
-    WEIGHHARE_MATERIAL_LENGTH = 16, /* the material's length is not that of its scheme and circuit [its length] */
+    WEIGHHARE_MATERIAL_SIZES = 15,  /* the material's n, m or q is not the circuit's [offset: 3] */
+    WEIGHHARE_MATERIAL_LENGTH = 16, /* the material's length is not that of its scheme and the circuit [its length] */
     WEIGHHARE_ROW_RECORD = 17,      /* a row record has a wrong mark or wire number [the wire number due] */
-    WEIGHHARE_LAST_RECORD = 18,     /* the last record has a wrong mark or a byte over 1 [where it starts] */
-    WEIGHHARE_ROOM = 19,            /* an output buffer is too short [bytes needed, of the first that is] */
+    WEIGHHARE_LAST_RECORD = 18,     /* the material's last record has a wrong mark or a byte over 1 [where it starts] */
+    WEIGHHARE_ROOM = 19,            /* an output buffer is too short [bytes needed: for the first such] */
     WEIGHHARE_PICK_WIRE = 20        /* pick's wire is 0 or past the lists [the wire] */
+};
+
+/*
+ * Codes of gates. A code is a truth table: its bit 2u+v, bit 0 the lowest, is the gate's value for a=u and b=v. A charged
+ * gate has rows in the material, a free one has none. Every other code is refused.
+ */
+enum {
+    WEIGHHARE_NOR = 1,       /* charged */
+    WEIGHHARE_LESS = 2,      /* charged: a < b, that is NOT a AND b */
+    WEIGHHARE_GREATER = 4,   /* charged: a > b, that is a AND NOT b */
+    WEIGHHARE_XOR = 6,       /* free */
+    WEIGHHARE_NAND = 7,      /* charged */
+    WEIGHHARE_AND = 8,       /* charged */
+    WEIGHHARE_XNOR = 9,      /* free */
+    WEIGHHARE_AT_MOST = 11,  /* charged: a <= b, that is NOT a OR b */
+    WEIGHHARE_AT_LEAST = 13, /* charged: a >= b, that is a OR NOT b */
+    WEIGHHARE_OR = 14        /* charged */
 };
 
 /* Schemes: rows for each charged gate, and so the material's length, 11 + m + p(4 + 16 rows). */
@@ -82,12 +120,17 @@ uint8_t weighhare_plain(const uint8_t *circuit, size_t circuit_len, const uint8_
 
 /*
  * Garbles a circuit. Refusals 1 to 7, 8, 14, 19.
+ *
+ * Not constant-time: AES goes by look-ups in tables, and their time can depend on the data, through the cache. Somebody
+ * who runs code on the same processor may learn about the tokens, and here about the seed.
+ *
  *   circuit   the circuit's bytes
- *   seed      16 bytes, secret, drawn at random and used for no other garbling
+ *   seed      16 bytes from getrandom(2) or another source of the system's random numbers, used for no other garbling;
+ *             secret, to wipe when garble has answered
  *   scheme    1, 2 or 3
  *   material  output: 11 + m + p(4 + 16 rows) bytes, with 4, 3 or 2 rows in scheme 1, 2 or 3; for the evaluator
- *   zeros     output: 16(n+q) bytes, the zero token of every wire; secret
- *   ones      output: 16n bytes, the one token of every input; secret
+ *   zeros     output: 16(n+q) bytes, the zero token of every wire; secret, to wipe when the inputs' tokens are chosen
+ *   ones      output: 16n bytes, the one token of every input; secret, to wipe then too
  *   answer    the material's length, the calls of the block cipher made (4p), 0, 0
  */
 uint8_t weighhare_garble(const uint8_t *circuit, size_t circuit_len, const uint8_t *seed, size_t seed_len, uint8_t scheme,
@@ -101,7 +144,7 @@ uint8_t weighhare_garble(const uint8_t *circuit, size_t circuit_len, const uint8
  *   values   n bytes, each 0 or 1
  *   zeros    16n bytes: the inputs' zero tokens, the first 16n bytes that garble wrote
  *   ones     16n bytes: the inputs' one tokens
- *   tokens   output: 16n bytes, a token for each input
+ *   tokens   output: 16n bytes, a token for each input; for the evaluator
  *   answer   0, 0, 0, 0
  */
 uint8_t weighhare_encode(const uint8_t *circuit, size_t circuit_len, const uint8_t *values, size_t values_len,
@@ -110,10 +153,18 @@ uint8_t weighhare_encode(const uint8_t *circuit, size_t circuit_len, const uint8
 
 /*
  * Evaluates a garbled circuit: from a token for each input, the token of every wire. Refusals 1 to 7, 11, 12 to 18, 19.
+ *
+ * Not constant-time: AES goes by look-ups in tables, and their time can depend on the data, through the cache. Somebody
+ * who runs code on the same processor may learn about the tokens.
+ *
+ * A garbling is for one evaluation: a second, on another input list, shows R wherever two tokens of a wire differ.
+ *
+ * Material that somebody else made can be well-formed and wrong. No row is checked: a bad one still ends in some token.
+ *
  *   circuit   the circuit's bytes
- *   tokens    16n bytes: a token for each input
+ *   tokens    16n bytes: a token for each input; to wipe after use
  *   material  the material, exactly as long as garble's answer says
- *   wires     output: 16(n+q) bytes, the token of every wire
+ *   wires     output: 16(n+q) bytes, the token of every wire; to wipe after use
  *   answer    the calls of the block cipher made (p in schemes 1 and 2, 2p in scheme 3), 0, 0, 0
  */
 uint8_t weighhare_evaluate(const uint8_t *circuit, size_t circuit_len, const uint8_t *tokens, size_t tokens_len,
@@ -127,9 +178,13 @@ typedef struct {
 } weighhare_gate;
 
 /*
- * Evaluates as weighhare_evaluate does, from the gates already read: the answer that a circuit of the bytes made from them
- * would get. For a caller that runs one circuit many times. Refusals 3, 6, 7, 11, 12 to 18, 19; more than 65,535 gates are
- * refusal 3.
+ * Evaluates as weighhare_evaluate does, from the gates already read: the answer that a circuit of the bytes made from
+ * them would get. For a caller that runs one circuit many times. Refusals 3, 6, 7, 11, 12 to 18, 19; more than 65,535
+ * gates are refusal 3.
+ *
+ * The three warnings of weighhare_evaluate hold here too: it is not constant-time, a garbling is for one evaluation, and
+ * somebody else's material can be wrong.
+ *
  *   n, m      the inputs and the outputs
  *   gates     q gates, in the order of their wire numbers
  *   tokens, material, wires, answer   as in weighhare_evaluate
@@ -139,7 +194,11 @@ uint8_t weighhare_evaluate_gates(uint16_t n, uint16_t m, const weighhare_gate *g
                                  size_t wires_len, uint64_t answer[4]);
 
 /*
- * Decodes the outputs' tokens to bits. Any tokens decode. Refusals 1 to 7, 11, 12 to 18, 19.
+ * Decodes the outputs' tokens to bits. Refusals 1 to 7, 11, 12 to 18, 19.
+ *
+ * Any tokens decode. Material that somebody else made can be well-formed and wrong: a flipped byte of its last record
+ * turns a 0 into a 1, and nothing here sees it.
+ *
  *   circuit   the circuit's bytes
  *   tokens    16m bytes: the tokens of the outputs, the last 16m of the 16(n+q) bytes that evaluate wrote
  *   material  the material, exactly as long as garble's answer says
@@ -159,6 +218,64 @@ uint8_t weighhare_decode(const uint8_t *circuit, size_t circuit_len, const uint8
  */
 uint8_t weighhare_pick(const uint8_t *zeros, size_t zeros_len, const uint8_t *ones, size_t ones_len, uint16_t wire,
                        uint8_t bit, uint64_t answer[4]);
+
+/* What a function's number says, in words: for 0 "nothing refused", from 21 "no such refusal". */
+static inline const char *weighhare_words(uint8_t number) {
+    switch (number) {
+    case WEIGHHARE_DONE: return "nothing refused";
+    case WEIGHHARE_CIRCUIT_SHORT: return "the circuit has under 8 bytes";
+    case WEIGHHARE_CIRCUIT_MARK: return "the circuit does not begin with the mark 43 48";
+    case WEIGHHARE_LIMITS: return "the circuit's n, m or q breaks a limit";
+    case WEIGHHARE_CIRCUIT_LENGTH: return "the circuit's length is not 8+7q";
+    case WEIGHHARE_GATE_MARK: return "a gate does not begin with the mark 43 47";
+    case WEIGHHARE_OPERANDS: return "a gate's operands a and b are not 1 <= a < b < its wire number";
+    case WEIGHHARE_CODE: return "a gate's code is neither charged nor free";
+    case WEIGHHARE_SEED_LENGTH: return "the seed has not 16 bytes";
+    case WEIGHHARE_VALUES_LENGTH: return "the value list has not a byte for each input";
+    case WEIGHHARE_VALUE: return "a value is neither 0 nor 1";
+    case WEIGHHARE_TOKENS_LENGTH: return "a token list has the wrong length";
+    case WEIGHHARE_MATERIAL_SHORT: return "the material has under 9 bytes";
+    case WEIGHHARE_MATERIAL_MARK: return "the material does not begin with the mark 47 48";
+    case WEIGHHARE_SCHEME: return "the scheme, the argument or the material's, is not 1, 2 or 3";
+    case WEIGHHARE_MATERIAL_SIZES: return "the material's n, m or q is not the circuit's";
+    case WEIGHHARE_MATERIAL_LENGTH: return "the material's length is not that of its scheme and the circuit";
+    case WEIGHHARE_ROW_RECORD: return "a row record has a wrong mark or wire number";
+    case WEIGHHARE_LAST_RECORD: return "the material's last record has a wrong mark or a byte over 1";
+    case WEIGHHARE_ROOM: return "an output buffer is too short";
+    case WEIGHHARE_PICK_WIRE: return "pick's wire is 0 or past the lists";
+    default: return "no such refusal";
+    }
+}
+
+/*
+ * What a refusal's place, answer[0], is, in words: for "a gate's code is neither charged nor free (its wire number: 3)".
+ * For 0, and from 21, "no place".
+ */
+static inline const char *weighhare_place_words(uint8_t number) {
+    switch (number) {
+    case WEIGHHARE_CIRCUIT_SHORT:
+    case WEIGHHARE_CIRCUIT_LENGTH:
+    case WEIGHHARE_SEED_LENGTH:
+    case WEIGHHARE_VALUES_LENGTH:
+    case WEIGHHARE_TOKENS_LENGTH:
+    case WEIGHHARE_MATERIAL_SHORT:
+    case WEIGHHARE_MATERIAL_LENGTH: return "its length";
+    case WEIGHHARE_CIRCUIT_MARK:
+    case WEIGHHARE_LIMITS:
+    case WEIGHHARE_MATERIAL_MARK:
+    case WEIGHHARE_MATERIAL_SIZES: return "offset";
+    case WEIGHHARE_GATE_MARK:
+    case WEIGHHARE_OPERANDS:
+    case WEIGHHARE_CODE: return "its wire number";
+    case WEIGHHARE_VALUE: return "its index";
+    case WEIGHHARE_SCHEME: return "the scheme";
+    case WEIGHHARE_ROW_RECORD: return "the wire number due";
+    case WEIGHHARE_LAST_RECORD: return "where it starts";
+    case WEIGHHARE_ROOM: return "bytes needed";
+    case WEIGHHARE_PICK_WIRE: return "the wire";
+    default: return "no place";
+    }
+}
 
 #ifdef __cplusplus
 }

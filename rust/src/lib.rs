@@ -10,6 +10,20 @@
 //! m are the outputs; lists of tokens and of values are in that order. `docs/FORMATS.md` of the repository has the bytes of
 //! a circuit and of the material.
 //!
+//! # What is secret
+//!
+//! What the caller must do about it, since nothing here does:
+//!
+//! - The seed is 16 bytes of the system's random numbers, from `getrandom(2)`, `/dev/urandom` or another such source. One
+//!   seed is for one garbling: two garblings from one seed have the same R, the block by which the two tokens of every
+//!   wire differ.
+//! - A garbling is for one evaluation. Evaluated on two input lists it shows R wherever two tokens of a wire differ, and
+//!   whoever has R makes each wire's other token from the one.
+//! - After use the garbler wipes the seed, `zeros` and `ones`, the evaluator its `tokens` and `wires`, and each its own
+//!   values, by a write that a compiler does not drop, such as `write_volatile`. Nothing here wipes anything. What a
+//!   function leaves on the stack is not wiped either.
+//! - AES by tables is not constant-time: see [`garble`] and [`evaluate`]. No function here claims to be.
+//!
 //! # Example
 //!
 //! An AND gate, garbled by half-gates (scheme 3), evaluated on 1 and 1, and decoded.
@@ -20,7 +34,7 @@
 //! let sizes = weighhare::check(&circuit)?;
 //! let wires = sizes.n + sizes.q;
 //!
-//! // The garbler's side. A real seed is drawn at random and used once.
+//! // The garbler's side. A real seed comes from the system's random numbers and is used once.
 //! let seed = [7; 16];
 //! let mut material = vec![0; 11 + sizes.m + sizes.p * (4 + 16 * 2)];
 //! let mut zeros = vec![0; 16 * wires];
@@ -49,7 +63,7 @@ mod refusal;
 
 pub use refusal::Refusal;
 
-/// A circuit's sizes.
+/// A circuit's sizes. Limits: n is 2 to 4,096, m is 1 to q, q is at least 1, and n+q is at most 65,535.
 #[derive(Clone, Copy, Debug, PartialEq, Eq)]
 #[must_use]
 pub struct Sizes {
@@ -64,6 +78,8 @@ pub struct Sizes {
 }
 
 /// A gate that is already read: two operands, which are wire numbers, and a code. Its fields lie as in C.
+///
+/// Limits: 1 <= a < b < the gate's own wire number.
 #[derive(Clone, Copy, Debug, PartialEq, Eq, Hash)]
 #[repr(C)]
 pub struct Gate {
@@ -71,7 +87,9 @@ pub struct Gate {
     pub a: u16,
     /// The second operand, over the first.
     pub b: u16,
-    /// The code: 1, 2, 4, 7, 8, 11, 13, 14 (charged), 6, 9 (free).
+    /// The code, a truth table: its bit 2u+v, bit 0 the lowest, is the gate's value for a=u and b=v. Charged are 1 (NOR),
+    /// 2 (a < b), 4 (a > b), 7 (NAND), 8 (AND), 11 (a <= b), 13 (a >= b) and 14 (OR); free are 6 (XOR) and 9 (XNOR).
+    /// Every other code is refused.
     pub code: u8,
 }
 
@@ -124,9 +142,13 @@ pub fn plain(circuit: &[u8], values: &[u8], wires: &mut [u8]) -> Result<(), Refu
 
 /// Garbles a circuit by a scheme: 1 is GaX, 2 GaXR, 3 half-gates. Refusals 1 to 7, 8, 14, 19.
 ///
-/// `seed` has 16 bytes; it is secret, drawn at random, and used for no other garbling. Writes 11+m+p(4+16r) bytes to
-/// `material`, where r is 4, 3 or 2 in scheme 1, 2 or 3; 16(n+q) bytes to `zeros`, the zero token of every wire; and 16n
-/// bytes to `ones`, the one token of every input.
+/// `seed` has 16 bytes, from `getrandom(2)` or another source of the system's random numbers; it is secret, and used for
+/// no other garbling. Writes 11+m+p(4+16r) bytes to `material`, where r is 4, 3 or 2 in scheme 1, 2 or 3; 16(n+q) bytes
+/// to `zeros`, the zero token of every wire; and 16n bytes to `ones`, the one token of every input. Both lists are
+/// secret. Wipe `seed` when garble has answered, `zeros` and `ones` when the inputs' tokens are chosen.
+///
+/// Not constant-time: AES goes by look-ups in tables, and their time can depend on the data, through the cache. Somebody
+/// who runs code on the same processor may learn about the tokens, and here about the seed.
 pub fn garble(
     circuit: &[u8],
     seed: &[u8],
@@ -186,7 +208,14 @@ pub fn encode(circuit: &[u8], values: &[u8], zeros: &[u8], ones: &[u8], tokens: 
 /// Refusals 1 to 7, 11, 12 to 18, 19.
 ///
 /// `tokens` has 16n bytes, a token for each input; `material` is exactly as long as [`Garbled::length`] says. Writes
-/// 16(n+q) bytes to `wires`: the token of every wire.
+/// 16(n+q) bytes to `wires`: the token of every wire. Wipe `tokens` and `wires` after use.
+///
+/// Not constant-time: AES goes by look-ups in tables, and their time can depend on the data, through the cache. Somebody
+/// who runs code on the same processor may learn about the tokens.
+///
+/// A garbling is for one evaluation: a second, on another input list, shows R wherever two tokens of a wire differ.
+///
+/// Material that somebody else made can be well-formed and wrong. No row is checked: a bad one still ends in some token.
 pub fn evaluate(circuit: &[u8], tokens: &[u8], material: &[u8], wires: &mut [u8]) -> Result<usize, Refusal> {
     let mut answer = [0; 4];
     // SAFETY: pointers and lengths are slices'; `wires` and `answer` are borrowed alone.
@@ -212,7 +241,8 @@ pub fn evaluate(circuit: &[u8], tokens: &[u8], material: &[u8], wires: &mut [u8]
 /// refusal 3.
 ///
 /// `n` and `m` are the inputs and the outputs, and `gates` are in the order of their wire numbers; the rest is as in
-/// [`evaluate`].
+/// [`evaluate`], whose three warnings hold here too: it is not constant-time, a garbling is for one evaluation, and
+/// somebody else's material can be wrong.
 ///
 /// ```
 /// use weighhare::{Gate, Refusal};
@@ -251,10 +281,13 @@ pub fn evaluate_gates(
     Ok(calls)
 }
 
-/// Decodes the outputs' tokens to bits. Any tokens decode. Refusals 1 to 7, 11, 12 to 18, 19.
+/// Decodes the outputs' tokens to bits. Refusals 1 to 7, 11, 12 to 18, 19.
 ///
 /// `tokens` has 16m bytes, the tokens of the outputs (the end of what [`evaluate`] wrote); `material` is exactly as long as
 /// [`Garbled::length`] says. Writes m bytes to `bits`, each 0 or 1.
+///
+/// Any tokens decode. Material that somebody else made can be well-formed and wrong: a flipped byte of its last record
+/// turns a 0 into a 1, and nothing here sees it.
 pub fn decode(circuit: &[u8], tokens: &[u8], material: &[u8], bits: &mut [u8]) -> Result<(), Refusal> {
     let mut answer = [0; 4];
     // SAFETY: pointers and lengths are slices'; `bits` and `answer` are borrowed alone.

@@ -3,7 +3,10 @@
 use std::error::Error;
 use std::fmt;
 
-/// Why an operation refused: the first condition that holds, in rising number, with its place.
+/// Why an operation refused: the first condition that holds, with its place.
+///
+/// Conditions are tried in rising number, 5 to 7 together as one search over the gates in file order; an operation skips
+/// what it has no argument for. A condition on several lists or buffers is tried in the order of the arguments.
 ///
 /// A refusal leaves every buffer as it was. Its `Display` says in words what is wrong and where.
 #[derive(Clone, Copy, Debug, PartialEq, Eq, Hash)]
@@ -16,7 +19,7 @@ pub enum Refusal {
     },
     /// 2: the circuit does not begin with the mark 43 48. Its place is 0.
     CircuitMark,
-    /// 3: the circuit's n, m or q breaks a limit. Its place is 2.
+    /// 3: the circuit's n, m or q breaks a limit ([`Sizes`](crate::Sizes)). Its place is 2.
     Limits,
     /// 4: the circuit's length is not 8+7q.
     CircuitLength {
@@ -28,12 +31,12 @@ pub enum Refusal {
         /// The gate's wire number.
         wire: u16,
     },
-    /// 6: a gate's operands a and b are not 1 ≤ a < b < the gate's wire number.
+    /// 6: a gate's operands a and b are not 1 <= a < b < its wire number.
     Operands {
         /// The gate's wire number.
         wire: u16,
     },
-    /// 7: a gate's code is neither charged nor free.
+    /// 7: a gate's code is neither charged nor free ([`Gate::code`](crate::Gate::code)).
     Code {
         /// The gate's wire number.
         wire: u16,

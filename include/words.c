@@ -1,0 +1,60 @@
+/*
+ * What the header itself says. Prints the words of each number and of its place, for include/check to compare with the
+ * comments of the enum, and tries the names of the codes on the archive. C11, and C++17 too.
+ */
+#include "weighhare.h"
+
+#include <stdio.h>
+#include <string.h>
+
+/* Each of 0 to 20 has words of its own, and each but 0 a place; no other number has either. */
+static int words(void) {
+    unsigned number, other;
+    for (number = 0; number <= 255; number++) {
+        const char *said = weighhare_words((uint8_t)number), *place = weighhare_place_words((uint8_t)number);
+        int is_said = strcmp(said, "no such refusal") != 0, is_place = strcmp(place, "no place") != 0;
+        if (is_said != (number <= WEIGHHARE_PICK_WIRE) || is_place != (number >= 1 && number <= WEIGHHARE_PICK_WIRE)) {
+            printf("number %u: %s, %s\n", number, said, place);
+            return 1;
+        }
+        for (other = 0; is_said && other < number; other++) {
+            if (strcmp(said, weighhare_words((uint8_t)other)) == 0) {
+                printf("numbers %u and %u: %s\n", other, number, said);
+                return 1;
+            }
+        }
+        if (is_place) printf("%u: %s [%s]\n", number, said, place);
+        else if (is_said) printf("%u: %s\n", number, said);
+    }
+    return 0;
+}
+
+/* Each code that has a name gives what the name says for a=u and b=v, and is charged or free; no other code is taken. */
+static int codes(uint8_t u, uint8_t v) {
+    const uint8_t named[10][3] = {
+        {WEIGHHARE_NOR, !(u || v), 1},     {WEIGHHARE_LESS, u < v, 1},      {WEIGHHARE_GREATER, u > v, 1},
+        {WEIGHHARE_XOR, u != v, 0},        {WEIGHHARE_NAND, !(u && v), 1},  {WEIGHHARE_AND, u && v, 1},
+        {WEIGHHARE_XNOR, u == v, 0},       {WEIGHHARE_AT_MOST, u <= v, 1},  {WEIGHHARE_AT_LEAST, u >= v, 1},
+        {WEIGHHARE_OR, u || v, 1},
+    };
+    const uint8_t values[2] = {u, v};
+    uint8_t circuit[15] = {0x43, 0x48, 0, 2, 0, 1, 0, 1, 0x43, 0x47, 0, 1, 0, 2, 0}, wires[3];
+    uint64_t answer[4];
+    unsigned code, next = 0;
+    for (code = 0; code <= 255; code++) {
+        int has_name = next < 10 && named[next][0] == code;
+        circuit[14] = (uint8_t)code;
+        if (weighhare_check(circuit, sizeof circuit, answer) != (has_name ? WEIGHHARE_DONE : WEIGHHARE_CODE)) break;
+        if (!has_name) continue;
+        if (answer[3] != named[next][2]) break;
+        if (weighhare_plain(circuit, sizeof circuit, values, sizeof values, wires, sizeof wires, answer)) break;
+        if (wires[2] != named[next][1]) break;
+        next++;
+    }
+    if (code <= 255) printf("code %u is not what the header says, for a=%u and b=%u\n", code, u, v);
+    return code <= 255;
+}
+
+int main(void) {
+    return words() || codes(0, 0) || codes(0, 1) || codes(1, 0) || codes(1, 1);
+}
