@@ -31,12 +31,14 @@ static struct written all_written(const struct worker *w, struct subject *s, uin
 {
     struct written all = {NULL, 0};
     uint64_t answer[4];
+    memset(answer, 0x5A, sizeof answer);
     uint8_t number = w->check(s->circuit, s->circuit_length, answer);
     append(&all, &number, 1);
     append(&all, answer, sizeof answer);
     memset(s->material, 0x5A, s->material_room);
     memset(s->zeros, 0x5A, 16 * s->wires);
     memset(s->ones, 0x5A, 16 * INPUTS);
+    memset(answer, 0x5A, sizeof answer);
     number = w->garble(s->circuit, s->circuit_length, s->seed, 16, scheme, s->material, s->material_room, s->zeros,
                        16 * s->wires, s->ones, 16 * INPUTS, answer);
     append(&all, &number, 1);
@@ -51,6 +53,7 @@ static struct written all_evaluated(const struct worker *w, struct subject *s)
 {
     struct written all = {NULL, 0};
     uint64_t answer[4];
+    memset(answer, 0x5A, sizeof answer);
     memset(s->held, 0x5A, 16 * s->wires);
     uint8_t number = w->evaluate(s->circuit, s->circuit_length, s->tokens, 16 * INPUTS, s->material, s->material_length,
                                  s->held, 16 * s->wires, answer);

@@ -54,6 +54,11 @@ fn encode_takes_zero_tokens_for_0_and_one_tokens_for_1() {
     assert_eq!(tokens[32], FILL);
 }
 
+/// The output's token for a bit: its zero token, and for 1 that ⊕ R. R is what the tokens of wire 1 differ by.
+fn output_token(zeros: &[u8; 48], ones: &[u8; 32], bit: u8) -> [u8; 16] {
+    std::array::from_fn(|i| zeros[32 + i] ^ bit * (zeros[i] ^ ones[i]))
+}
+
 #[test]
 fn evaluate_and_decode_give_the_plain_bit() {
     for scheme in 1..=3 {
@@ -64,11 +69,7 @@ fn evaluate_and_decode_give_the_plain_bit() {
             let calls = weighhare::evaluate(&AND, &inputs, &material, &mut tokens).expect("evaluated");
             assert_eq!(calls, if scheme == 3 { 2 } else { 1 });
             assert_eq!(tokens[..32], inputs);
-            assert_eq!(
-                tokens[32..48] == zeros[32..],
-                u & v == 0,
-                "the zero token exactly for 0"
-            );
+            assert_eq!(tokens[32..48], output_token(&zeros, &ones, u & v));
             assert_eq!(tokens[48], FILL);
             weighhare::decode(&AND, &tokens[32..48], &material, &mut bits).expect("decoded");
             assert_eq!(bits, [u & v, FILL]);

@@ -41,7 +41,7 @@ int read_case(FILE *file, struct call *call)
     read_exactly(file, call->words, sizeof call->words);
     call->operation = head[0], call->scheme = head[1], call->bit = head[2], call->number = head[3];
     call->wire = numbers[0], call->n = numbers[1], call->m = numbers[2];
-    if (numbers[3] > MOST_LISTS || numbers[4] > MOST_OUTPUTS)
+    if (call->operation >= OPERATIONS || numbers[3] > MOST_LISTS || numbers[4] > MOST_OUTPUTS)
         exit(2);
     for (; call->lists < numbers[3]; call->lists++)
         call->list[call->lists] = read_bytes(file, read_length(file));

@@ -41,11 +41,25 @@ static int run_case(const struct call *call, enum place place)
     return fine;
 }
 
-/* Runs the cases of a file; the number of those that went wrong. */
+/* The operations of which no call was worked through, or none refused. */
+static unsigned long not_met(unsigned long met[OPERATIONS][2])
+{
+    unsigned long missing = 0;
+    for (int operation = 0; operation < OPERATIONS; operation++) {
+        if (met[operation][0] > 0 && met[operation][1] > 0)
+            continue;
+        fprintf(stderr, "memory: operation %d: %lu calls worked through, %lu refused\n", operation, met[operation][0],
+                met[operation][1]);
+        missing++;
+    }
+    return missing;
+}
+
+/* Runs the cases of a file; the number of those that went wrong, and of the operations that they do not try. */
 static unsigned long run_file(FILE *file, enum place place, unsigned long step)
 {
     struct call call;
-    unsigned long wrong = 0, done = 0, refused = 0;
+    unsigned long wrong = 0, done = 0, refused = 0, met[OPERATIONS][2] = {{0}};
     for (case_under_way = 0; read_case(file, &call); case_under_way++) {
         if (case_under_way % step == 0) {
             int fine = run_case(&call, place);
@@ -54,11 +68,12 @@ static unsigned long run_file(FILE *file, enum place place, unsigned long step)
             wrong += !fine;
             done++;
             refused += call.number != 0;
+            met[call.operation][call.number != 0]++;
         }
         free_case(&call);
     }
     printf("%lu calls, %lu of them refused, %lu wrong\n", done, refused, wrong);
-    return done > 0 ? wrong : 1;
+    return wrong + not_met(met);
 }
 
 static enum place place_of(const char *word)

@@ -5,7 +5,6 @@ use std::collections::BTreeSet;
 use second::block::{Block, BLOCK};
 use second::circuit::{Circuit, Sizes};
 use second::generate;
-use second::material;
 use second::operations::{decode, encode, evaluate, evaluate_gates, garble, plain};
 use second::random::Random;
 use second::scheme::Scheme;
@@ -20,12 +19,22 @@ struct Chain {
     decoded: Vec<u8>,
 }
 
+/// The rows of a charged gate, and the calls of π that evaluate makes for it.
+fn rows_and_calls(scheme: Scheme) -> (usize, usize) {
+    match scheme {
+        Scheme::GaX => (4, 1),
+        Scheme::GaXR => (3, 1),
+        Scheme::HalfGates => (2, 2),
+    }
+}
+
 /// Runs the chain in buffers of exactly the bytes named, and checks what the calls return.
 fn run(bytes: &[u8], scheme: Scheme, seed: &[u8], values: &[u8]) -> Chain {
     let circuit = Circuit::read(bytes).expect("an accepted circuit");
     let sizes = circuit.sizes();
     let Sizes { n, m, p, .. } = sizes;
-    let length = material::length(sizes, scheme);
+    let (rows, calls) = rows_and_calls(scheme);
+    let length = 11 + m + p * (4 + BLOCK * rows);
     let (mut material, mut zeros) = (vec![0; length], vec![0; BLOCK * sizes.wires()]);
     let (mut ones, mut tokens) = (vec![0; BLOCK * n], vec![0; BLOCK * n]);
     let (mut held, mut decoded) = (vec![0; BLOCK * sizes.wires()], vec![0; m]);
@@ -37,16 +46,12 @@ fn run(bytes: &[u8], scheme: Scheme, seed: &[u8], values: &[u8]) -> Chain {
         encode(bytes, values, &zeros[..BLOCK * n], &ones, &mut tokens),
         Ok(())
     );
-    let calls = if scheme == Scheme::HalfGates {
-        2 * p
-    } else {
-        p
-    };
+    let calls = (calls * p) as u64;
     let evaluated = evaluate(bytes, &tokens, &material, &mut held);
-    assert_eq!(evaluated, Ok(calls as u64));
+    assert_eq!(evaluated, Ok(calls));
     let outputs = &held[held.len() - BLOCK * m..];
     assert_eq!(decode(bytes, outputs, &material, &mut decoded), Ok(()));
-    check_list_form(&circuit, &tokens, &material, &held);
+    check_list_form(&circuit, &tokens, &material, calls, &held);
     Chain {
         zeros,
         held,
@@ -55,13 +60,14 @@ fn run(bytes: &[u8], scheme: Scheme, seed: &[u8], values: &[u8]) -> Chain {
 }
 
 /// The list form gets the answer of the bytes.
-fn check_list_form(circuit: &Circuit, tokens: &[u8], material: &[u8], held: &[u8]) {
+fn check_list_form(circuit: &Circuit, tokens: &[u8], material: &[u8], calls: u64, held: &[u8]) {
     let Sizes { n, m, .. } = circuit.sizes();
     let gates: Vec<_> = circuit.gates().map(|(_, gate)| gate).collect();
     let mut by_list = vec![0; held.len()];
     let (n, m) = (n as u16, m as u16);
     let answer = evaluate_gates(n, m, &gates, tokens, material, &mut by_list);
-    assert!(answer.is_ok() && by_list == held, "list form: {answer:?}");
+    assert_eq!(answer, Ok(calls), "list form");
+    assert!(by_list == held, "list form: other tokens");
 }
 
 /// Demand 3: the distance on every wire, and the decoded bits.
@@ -72,13 +78,12 @@ fn check_chain(bytes: &[u8], scheme: Scheme, seed: &[u8; BLOCK], values: &[u8], 
     let chain = run(bytes, scheme, seed, values);
     let offset = Seed::new(seed).offset();
     assert!(offset.colour().0 && offset != Block::ZERO);
-    let tokens = Block::list(&chain.zeros)
-        .into_iter()
-        .zip(Block::list(&chain.held));
-    for ((zero, held), (index, &value)) in tokens.zip(carried.iter().enumerate()) {
+    let (zeros, held) = (Block::list(&chain.zeros), Block::list(&chain.held));
+    for (index, &value) in carried.iter().enumerate() {
+        let distance = zeros[index] ^ held[index];
         let expected = if value == 1 { offset } else { Block::ZERO };
         let wire = index + 1;
-        assert_eq!(zero ^ held, expected, "{name}, {scheme:?}, wire {wire}");
+        assert_eq!(distance, expected, "{name}, {scheme:?}, wire {wire}");
     }
     assert_eq!(chain.decoded, carried[n + q - m..], "{name}, {scheme:?}");
 }

@@ -1,15 +1,19 @@
-//! Generated calls: sound ones are worked through, damaged ones get the refusal aimed at.
+//! Generated calls, sound and damaged, and what is due to each: the answer, and the output buffers.
+
+mod due;
+
+use std::collections::BTreeSet;
 
 use second::block::BLOCK;
 use second::call::{Call, Operation};
 use second::circuit::to_bytes;
+use second::generate::call;
 use second::generate::damage::damaged_call;
-use second::generate::{call, room};
 use second::random::Random;
 
-/// The numbers that may be given where both conditions hold: the lower, or, in the one search for
+/// The numbers that may be due where both conditions hold: the lower, or, in the one search for
 /// 5 to 7, that of the first gate with a fault.
-fn may_be_given(first: u8, second: u8) -> Vec<u8> {
+fn may_be_due(first: u8, second: u8) -> Vec<u8> {
     let one_search = 5..=7;
     if one_search.contains(&first) && one_search.contains(&second) {
         return vec![first, second];
@@ -17,51 +21,45 @@ fn may_be_given(first: u8, second: u8) -> Vec<u8> {
     vec![first.min(second)]
 }
 
-/// The place of a condition, where the arguments show it without a search in records.
-fn place(call: &Call, number: u8) -> Option<u64> {
-    let place = match (number, call.operation) {
-        (1 | 4, _) => call.circuit.len(),
-        (2 | 13, _) => 0,
-        (3, _) => 2,
-        (8, _) => call.seed.len(),
-        (9, _) => call.values.len(),
-        (10, Operation::Pick) => 0,
-        (10, _) => call.values.iter().position(|&value| value > 1)?,
-        (11, Operation::Pick) => call.zero.len(),
-        (11, Operation::Encode) => {
-            let right = BLOCK * call.values.len();
-            let lengths = [call.zero.len(), call.one.len()];
-            lengths.into_iter().find(|&length| length != right)?
-        }
-        (11, _) => call.tokens.len(),
-        (12 | 16, _) => call.material.len(),
-        (14, Operation::Garble) => usize::from(call.scheme),
-        (14, _) => usize::from(call.material[2]),
-        (15, _) => 3,
-        (18, _) => call.material.len() - 2 - call.read_circuit().ok()?.sizes().m,
-        (19, _) => {
-            let mut needed = room(call)?.into_iter().zip(&call.lens);
-            needed.find(|(needed, len)| needed > len)?.0
-        }
-        (20, _) => usize::from(call.wire),
-        _ => return None,
-    };
-    Some(place as u64)
-}
-
-fn check_refused(call: &Call, given: &[u8]) {
-    let outcome = call.run();
-    let refused = outcome.answer.expect_err("a damaged call");
+/// Runs the call. Its answer must be the one due. If that is a refusal, the buffers must be as they
+/// were, and its number is given.
+fn refused(call: &Call) -> Option<u8> {
     let operation = call.operation;
-    let number = refused.number;
-    assert!(given.contains(&number), "{operation:?}: {refused:?}");
-    let place = place(call, number).unwrap_or(refused.place);
-    assert_eq!(refused.place, place, "{operation:?}: {refused:?}");
+    let outcome = call.run();
+    let answer = due::answer(call);
+    assert_eq!(outcome.answer, answer, "{operation:?}");
+    let number = answer.err()?.number;
     if operation == Operation::Pick {
         assert_eq!(outcome.buffers, [Vec::<u8>::new()]);
     } else {
         assert!(outcome.buffers == call.buffers(), "{operation:?}: written");
     }
+    Some(number)
+}
+
+/// A sound call: the bytes named do not depend on what the buffers held before, so all of them were
+/// written; past them the buffers are as they were.
+fn check_written(call: &Call) {
+    let operation = call.operation;
+    let other = Call {
+        fill: !call.fill,
+        ..call.clone()
+    };
+    let (buffers, others, named) = (call.run().buffers, other.run().buffers, due::room(call));
+    assert_eq!(buffers.len(), named.len(), "{operation:?}");
+    for ((buffer, other), named) in buffers.iter().zip(&others).zip(named) {
+        let written = buffer[..named] == other[..named];
+        assert!(written, "{operation:?}: not all written");
+        let past = &buffer[named..];
+        assert!(past.iter().all(|&byte| byte == call.fill), "{operation:?}");
+    }
+}
+
+/// A sound call of pick: the token of the wire, of the list of the bit.
+fn check_picked(call: &Call) {
+    let list = if call.bit == 1 { &call.one } else { &call.zero };
+    let end = BLOCK * usize::from(call.wire);
+    assert_eq!(call.run().buffers, [&list[end - BLOCK..end]]);
 }
 
 #[test]
@@ -70,12 +68,10 @@ fn sound_calls_write_the_bytes_named_and_no_more() {
     for operation in Operation::ALL {
         for _ in 0..300 {
             let call = call(&mut random, operation);
-            let outcome = call.run();
-            assert!(outcome.answer.is_ok(), "{operation:?}: {call:02x?}");
-            let needed = room(&call).expect("a sound call");
-            for (buffer, needed) in outcome.buffers.iter().zip(needed) {
-                let past = &buffer[needed..];
-                assert!(past.iter().all(|&byte| byte == call.fill));
+            assert_eq!(refused(&call), None, "{operation:?}: {call:02x?}");
+            match operation {
+                Operation::Pick => check_picked(&call),
+                _ => check_written(&call),
             }
         }
     }
@@ -84,14 +80,17 @@ fn sound_calls_write_the_bytes_named_and_no_more() {
 #[test]
 fn each_condition_alone() {
     let mut random = Random::new(22);
+    let mut met = BTreeSet::new();
     for operation in Operation::ALL {
         for &number in operation.refusals() {
             for _ in 0..60 {
                 let call = damaged_call(&mut random, operation, &[number]);
-                check_refused(&call, &[number]);
+                assert_eq!(refused(&call), Some(number), "{operation:?}");
+                met.insert(number);
             }
         }
     }
+    assert_eq!(met, (1..=20).collect());
 }
 
 #[test]
@@ -102,9 +101,12 @@ fn two_conditions_at_once() {
             for &second in operation.refusals() {
                 for _ in 0..10 {
                     let call = damaged_call(&mut random, operation, &[first, second]);
+                    let number = refused(&call);
                     // Of two damages of one number, the second may undo the first.
-                    if first != second || call.run().answer.is_err() {
-                        check_refused(&call, &may_be_given(first, second));
+                    if first != second {
+                        let number = number.expect("a damaged call");
+                        let due = may_be_due(first, second);
+                        assert!(due.contains(&number), "{operation:?}: {number}");
                     }
                 }
             }
@@ -117,16 +119,21 @@ fn two_conditions_at_once() {
 fn list_form_answers_as_its_bytes() {
     let mut random = Random::new(24);
     let numbers = Operation::EvaluateGates.refusals();
+    let mut compared = 0;
     for _ in 0..2000 {
         let aims = [random.one_of(numbers), random.one_of(numbers)];
         let by_list = damaged_call(&mut random, Operation::EvaluateGates, &aims);
+        let number = refused(&by_list);
+        // No bytes have so many gates.
         if by_list.gates.len() > 65_535 {
-            check_refused(&by_list, &[3]);
+            assert_eq!(number, Some(3));
             continue;
         }
         let mut by_bytes = by_list.clone();
         by_bytes.operation = Operation::Evaluate;
         by_bytes.circuit = to_bytes(by_list.n, by_list.m, &by_list.gates);
         assert_eq!(by_list.run(), by_bytes.run(), "aims {aims:?}");
+        compared += 1;
     }
+    assert!(compared > 1000, "{compared} of 2000 compared");
 }

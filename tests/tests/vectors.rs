@@ -1,11 +1,19 @@
-//! The files of cases of the test programs `vectors` and `garblings` are those made here, and they
-//! are held to all of them.
+//! The files of cases of the test programs `vectors` and `garblings` are those made here and a few
+//! written by hand, and they are held to all of them.
 
 use std::fs;
 
 use second::vectors::files;
 
 const CRATES: &str = concat!(env!("CARGO_MANIFEST_DIR"), "/../crates");
+
+/// Written by hand, from FIPS 197, RFC 4493 and 01's table.
+const BY_HAND: [&str; 4] = [
+    "doubling",
+    "examples",
+    "fips197-encryption",
+    "fips197-key-expansion",
+];
 
 #[test]
 fn files_are_those_made_here() {
@@ -16,13 +24,37 @@ fn files_are_those_made_here() {
     }
 }
 
+/// The files of a program's data, each with its cases.
+fn data(program: &str) -> Vec<(String, usize)> {
+    let entries = fs::read_dir(format!("{CRATES}/{program}/data")).expect("data");
+    let file = |entry: fs::DirEntry| {
+        let text = fs::read_to_string(entry.path()).expect("a file of cases");
+        let name = entry.file_name().into_string().expect("a name");
+        (name, text.lines().count())
+    };
+    entries.map(|entry| file(entry.expect("a file"))).collect()
+}
+
 #[test]
 fn every_case_is_counted() {
-    for file in files() {
-        let stdout = format!("{CRATES}/{}/stdout", file.program());
-        let stdout = fs::read_to_string(stdout).expect("stdout");
-        let cases = file.text.lines().count();
-        let due = format!("{}: {cases} of {cases} agree", file.name);
-        assert!(stdout.lines().any(|line| line == due), "no line {due:?}");
+    let mut found = Vec::new();
+    for program in ["vectors", "garblings"] {
+        let mut due = Vec::new();
+        for (name, cases) in data(program) {
+            assert!(cases > 0, "{name} has no case");
+            due.push(format!("{name}: {cases} of {cases} agree"));
+            found.push(name);
+        }
+        let stdout = fs::read_to_string(format!("{CRATES}/{program}/stdout")).expect("stdout");
+        let mut lines: Vec<&str> = stdout.lines().collect();
+        due.sort();
+        lines.sort();
+        assert_eq!(lines, due, "{program}");
     }
+    let files = files();
+    let made = files.iter().map(|file| file.name);
+    let mut names: Vec<&str> = made.chain(BY_HAND).collect();
+    found.sort();
+    names.sort();
+    assert_eq!(found, names);
 }

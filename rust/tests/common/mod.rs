@@ -30,12 +30,12 @@ pub fn material_length(scheme: u8) -> usize {
     [80, 64, 48][usize::from(scheme) - 1]
 }
 
-/// Garbles the AND gate into buffers of just the lengths needed.
+/// Garbles the AND gate into buffers of just the lengths needed, which held another byte before than `FILL`.
 pub fn garbling(scheme: u8) -> Garbling {
     let mut garbling = Garbling {
-        material: vec![FILL; material_length(scheme)],
-        zeros: [FILL; 48],
-        ones: [FILL; 32],
+        material: vec![!FILL; material_length(scheme)],
+        zeros: [!FILL; 48],
+        ones: [!FILL; 32],
     };
     let garbled = weighhare::garble(
         &AND,

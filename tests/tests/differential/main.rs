@@ -53,6 +53,18 @@ impl Run {
         }
     }
 
+    /// Runs a part that makes calls. One that makes none has compared nothing, and fails.
+    fn calls(&mut self, name: &str, work: impl FnOnce(&mut Run)) {
+        self.part(name, |run| {
+            let before = run.coverage.calls();
+            work(run);
+            if run.failures == 0 && run.coverage.calls() == before {
+                println!("NOTHING COMPARED: {name} made no call");
+                run.failures += 1;
+            }
+        });
+    }
+
     /// Runs a part, says what came of it and counts it.
     fn part(&mut self, name: &str, work: impl FnOnce(&mut Run)) {
         let (before, start) = (self.coverage.calls(), Instant::now());
@@ -173,13 +185,13 @@ fn main() -> ExitCode {
         failed: 0,
     };
     if let Some(number) = options.case {
-        run.part("one random case", |run| run.one_case(number));
+        run.calls("one random case", |run| run.one_case(number));
     } else if options.chosen {
-        run.part("edges", Run::edges);
-        run.part("pairs", Run::pairs);
-        run.part("limits", Run::limits);
-        run.part("stored cases", Run::stored);
-        run.part("random", Run::random);
+        run.calls("edges", Run::edges);
+        run.calls("pairs", Run::pairs);
+        run.calls("limits", Run::limits);
+        run.calls("stored cases", Run::stored);
+        run.calls("random", Run::random);
         run.part("coverage", Run::all_met);
     }
     let Run { passed, failed, .. } = run;

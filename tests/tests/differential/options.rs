@@ -1,10 +1,11 @@
 //! What the command line asks for.
 
+use std::env;
 use std::time::Duration;
 
 /// How the options are given.
-pub const USAGE: &str = "options: --seconds N (how long the random part runs; 40), --seed N (1), \
-                         --case N (that random case alone)";
+pub const USAGE: &str = "options: --seconds N (how long the random part runs; WEIGHHARE_SECONDS, \
+                         or 40), --seed N (1), --case N (that random case alone)";
 
 /// The options, with what holds where they are not given.
 #[derive(Clone, Copy)]
@@ -19,10 +20,18 @@ pub struct Options {
     pub chosen: bool,
 }
 
+/// How long the random part runs where the command line does not say; nothing where it is no number.
+fn usual_seconds() -> Option<u64> {
+    match env::var("WEIGHHARE_SECONDS") {
+        Ok(seconds) => seconds.parse().ok(),
+        Err(_) => Some(40),
+    }
+}
+
 /// Reads the options; nothing where they are wrong.
 pub fn read(words: impl Iterator<Item = String>) -> Option<Options> {
     let mut options = Options {
-        time: Duration::from_secs(40),
+        time: Duration::from_secs(usual_seconds()?),
         seed: 1,
         case: None,
         chosen: true,

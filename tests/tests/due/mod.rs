@@ -1,0 +1,203 @@
+//! What is due to a call, worked out once more, from its arguments and 01 alone. Library `second`
+//! gives only the call, the refusals that its operation has, and the bytes made from a list.
+
+use second::call::{Call, Operation};
+use second::circuit::to_bytes;
+use second::refused::Refused;
+
+const CHARGED: [u8; 8] = [1, 2, 4, 7, 8, 11, 13, 14];
+const FREE: [u8; 2] = [6, 9];
+
+/// The answer due: the first condition that holds, in rising number, or the numbers returned.
+pub fn answer(call: &Call) -> Result<Vec<u64>, Refused> {
+    let given = Given::new(call);
+    for &number in call.operation.refusals() {
+        if let Some(place) = given.place(number) {
+            return Err(Refused::new(number, place));
+        }
+    }
+    let numbers = given.numbers().into_iter();
+    Ok(numbers.map(|number| number as u64).collect())
+}
+
+/// The bytes that the output buffers need, in 01's order, if no condition before 19 holds.
+pub fn room(call: &Call) -> Vec<usize> {
+    Given::new(call).room()
+}
+
+/// A call, and its circuit, read without a check.
+struct Given<'a> {
+    call: &'a Call,
+    /// The circuit's bytes; in the list form those made from the list.
+    circuit: Vec<u8>,
+    n: usize,
+    m: usize,
+    q: usize,
+}
+
+/// The number of the 2 bytes at an index; 0 where there are none.
+fn number_at(bytes: &[u8], at: usize) -> usize {
+    let number = |two: &[u8]| 256 * usize::from(two[0]) + usize::from(two[1]);
+    bytes.get(at..at + 2).map_or(0, number)
+}
+
+/// The bytes of a row record, 4+16r: r is 4, 3, 2 in schemes 1, 2, 3.
+fn record_length(scheme: u8) -> usize {
+    4 + 16 * (5 - usize::from(scheme))
+}
+
+impl Given<'_> {
+    fn new(call: &Call) -> Given<'_> {
+        let is_list = call.operation == Operation::EvaluateGates;
+        let circuit = match is_list {
+            true => to_bytes(call.n, call.m, &call.gates),
+            false => call.circuit.clone(),
+        };
+        let [n, m, q] = [2, 4, 6].map(|at| number_at(&circuit, at));
+        // A list may have more gates than 2 bytes can count.
+        let q = if is_list { call.gates.len() } else { q };
+        Given {
+            call,
+            circuit,
+            n,
+            m,
+            q,
+        }
+    }
+
+    /// The gate records in file order, each with its wire number.
+    fn gates(&self) -> impl Iterator<Item = (&[u8], usize)> {
+        let records = self.circuit.get(8..).unwrap_or_default();
+        records.chunks_exact(7).zip(self.n + 1..)
+    }
+
+    /// The wire numbers of the charged gates, in file order.
+    fn charged(&self) -> Vec<usize> {
+        let charged = self.gates().filter(|(gate, _)| CHARGED.contains(&gate[6]));
+        charged.map(|(_, wire)| wire).collect()
+    }
+
+    /// The scheme byte: garble's argument, or the material's.
+    fn scheme(&self) -> u8 {
+        match self.call.operation {
+            Operation::Garble => self.call.scheme,
+            _ => self.call.material[2],
+        }
+    }
+
+    /// The material's length, 11+m+p(4+16r).
+    fn material_length(&self) -> usize {
+        11 + self.m + self.charged().len() * record_length(self.scheme())
+    }
+
+    fn room(&self) -> Vec<usize> {
+        let (n, wires) = (self.n, self.n + self.q);
+        match self.call.operation {
+            Operation::Check | Operation::Pick => vec![],
+            Operation::Plain => vec![wires],
+            Operation::Garble => vec![self.material_length(), 16 * wires, 16 * n],
+            Operation::Encode => vec![16 * n],
+            Operation::Evaluate | Operation::EvaluateGates => vec![16 * wires],
+            Operation::Decode => vec![self.m],
+        }
+    }
+
+    /// The numbers that an operation returns if it is not refused.
+    fn numbers(&self) -> Vec<usize> {
+        let p = self.charged().len();
+        match self.call.operation {
+            Operation::Check => vec![self.n, self.m, self.q, p],
+            Operation::Garble => vec![self.material_length(), 4 * p],
+            Operation::Evaluate | Operation::EvaluateGates if self.scheme() == 3 => vec![2 * p],
+            Operation::Evaluate | Operation::EvaluateGates => vec![p],
+            _ => vec![],
+        }
+    }
+
+    /// The place of a condition, if it holds. None before it does, so there is what it looks at.
+    fn place(&self, number: u8) -> Option<usize> {
+        let Given { call, circuit, .. } = self;
+        let (n, m, q, material) = (self.n, self.m, self.q, &call.material);
+        let (holds, place) = match (number, call.operation) {
+            (1, _) => (circuit.len() < 8, circuit.len()),
+            (2, _) => (circuit[..2] != [0x43, 0x48], 0),
+            (3, _) => {
+                let limits = (2..=4096).contains(&n) && 1 <= m && m <= q && n + q <= 65_535;
+                (!limits, 2)
+            }
+            (4, _) => (circuit.len() != 8 + 7 * q, circuit.len()),
+            (5..=7, _) => {
+                let (found, wire) = self.faulty_gate()?;
+                (found == number, wire)
+            }
+            (8, _) => (call.seed.len() != 16, call.seed.len()),
+            (9, _) => (call.values.len() != n, call.values.len()),
+            (10, Operation::Pick) => (call.bit > 1, 0),
+            (10, _) => return call.values.iter().position(|&value| value > 1),
+            (11, Operation::Pick) => {
+                let (zero, one) = (call.zero.len(), call.one.len());
+                (zero != one || zero % 16 != 0, zero)
+            }
+            (11, _) => return self.wrong_list(),
+            (12, _) => (material.len() < 9, material.len()),
+            (13, _) => (material[..2] != [0x47, 0x48], 0),
+            (14, _) => (!(1..=3).contains(&self.scheme()), self.scheme().into()),
+            (15, _) => (material[3..9] != circuit[2..8], 3),
+            (16, _) => (material.len() != self.material_length(), material.len()),
+            (17, _) => return self.faulty_record(),
+            (18, _) => {
+                let (before, last) = material.split_at(material.len() - 2 - m);
+                let over = last[2..].iter().any(|&byte| byte > 1);
+                (last[..2] != [0x47, 0x44] || over, before.len())
+            }
+            (19, _) => return self.short_buffer(),
+            (20, _) => {
+                let wire = usize::from(call.wire);
+                (wire == 0 || 16 * wire > call.zero.len(), wire)
+            }
+            _ => panic!("there is no refusal {number}"),
+        };
+        holds.then_some(place)
+    }
+
+    /// 5 to 7, one search: the first gate with a fault, and that gate's lowest number.
+    fn faulty_gate(&self) -> Option<(u8, usize)> {
+        self.gates().find_map(|(gate, wire)| {
+            let (a, b, code) = (number_at(gate, 2), number_at(gate, 4), gate[6]);
+            let faults = [
+                (5, gate[..2] != [0x43, 0x47]),
+                (6, !(1 <= a && a < b && b < wire)),
+                (7, !CHARGED.contains(&code) && !FREE.contains(&code)),
+            ];
+            let lowest = faults.into_iter().find(|&(_, holds)| holds);
+            lowest.map(|(number, _)| (number, wire))
+        })
+    }
+
+    /// 11: the length of the first token list that is wrong.
+    fn wrong_list(&self) -> Option<usize> {
+        let call = self.call;
+        let (lists, due) = match call.operation {
+            Operation::Encode => (vec![&call.zero, &call.one], 16 * self.n),
+            Operation::Decode => (vec![&call.tokens], 16 * self.m),
+            _ => (vec![&call.tokens], 16 * self.n),
+        };
+        let mut lengths = lists.into_iter().map(Vec::len);
+        lengths.find(|&length| length != due)
+    }
+
+    /// 17: the wire number due in the first record that has a wrong mark or wire number.
+    fn faulty_record(&self) -> Option<usize> {
+        let records = self.call.material[9..].chunks(record_length(self.scheme()));
+        records.zip(self.charged()).find_map(|(record, wire)| {
+            let wrong = record[..2] != [0x47, 0x54] || number_at(record, 2) != wire;
+            wrong.then_some(wire)
+        })
+    }
+
+    /// 19: the bytes needed in the first output buffer that is too short.
+    fn short_buffer(&self) -> Option<usize> {
+        let mut buffers = self.room().into_iter().zip(&self.call.lens);
+        buffers.find_map(|(needed, &len)| (len < needed).then_some(needed))
+    }
+}
