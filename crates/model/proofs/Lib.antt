@@ -2,12 +2,14 @@
 pub mod Lists
 pub mod Table
 pub mod Buffers
+pub mod Decimal
 pub mod Xor
 pub mod Field
 pub mod Circuits
 pub mod Calls
 pub mod Verdicts
 pub mod Examples
+pub mod Program
 pub mod Bits
 pub mod XorRules
 pub mod Tokens

@@ -1,5 +1,6 @@
 -- What is meant: document 01, a file for each of its sections, in its order. Definitions only: laws are in proofs/.
 pub mod Bytes
+pub mod Decimal
 pub mod Circuit
 pub mod Aes
 pub mod Tokens
@@ -12,5 +13,6 @@ pub mod Material
 pub mod Evaluation
 pub mod Refusals
 pub mod Operations
+pub mod Program
 pub mod Demand3
 pub mod Examples
