@@ -1,0 +1,2 @@
+-- What the contracts of the functions cite.
+pub mod Written
