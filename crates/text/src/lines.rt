@@ -29,10 +29,10 @@ pub fn write_sizes(out: &mut [u8], z: Sizes) -> usize
     requires { ⌜ 84 ≤ length (now out) ⌝ }
     ensures { λ r. ⌜ Wrote 84 (sizesLine z) (now (out .entry)) 0 r (now (out .exit)) ⌝ }
 {
-    let m = write_number(out, 0, z.n, b' ');
-    let q = write_number(out, m, z.m, b' ');
-    let p = write_number(out, q, z.q, b' ');
-    write_number(out, p, z.p, b'\n')
+    let at_m = write_number(out, 0, z.n, b' ');
+    let at_q = write_number(out, at_m, z.m, b' ');
+    let at_p = write_number(out, at_q, z.q, b' ');
+    write_number(out, at_p, z.p, b'\n')
 }
 
 // The material's lengths under schemes 1 to 3.
@@ -52,8 +52,8 @@ pub fn write_refusal(out: &mut [u8], f: Refusal) -> usize
 {
     copy_front(b"refused ", out);
     let t = number_and_place(f);
-    let place = write_number(out, 8, t.number as usize, b' ');
-    write_number(out, place, t.place, b'\n')
+    let at_place = write_number(out, 8, t.number as usize, b' ');
+    write_number(out, at_place, t.place, b'\n')
 }
 
 // For an input over 65,536 bytes.
