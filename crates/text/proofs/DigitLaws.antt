@@ -22,7 +22,7 @@ pub record Found (x : ℕ) (bytes : List ℕ) (first rest : ℕ) : Type 0 where
   pub within : first < 20
   pub whole : length bytes ≡ 20
 
-pub found-start : (x : ℕ) → x < 2 ^ 64 → Found x (replicate 20 0) 19 x
+pub found-start : (x : ℕ) → x < 2 ^ 64 → Found x (replicate 20 0x30) 19 x
 found-start x h = record { so-far = sym (append-nil (decimal x)); small = omega arith; within = omega arith; whole = refl }
 
 module _ (x : ℕ) (bytes : List ℕ) (first rest : ℕ) (inv : Found x bytes first rest) where

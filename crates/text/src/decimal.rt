@@ -23,7 +23,7 @@ fn last_digit(x: usize) -> u8
 fn digits_of(x: usize) -> Digits
     ensures { λ r. ⌜ DigitsAre x (r .bytes) (r .first) ⌝ }
 {
-    let mut bytes = [0u8; 20];
+    let mut bytes = [b'0'; 20];
     let mut first: usize = 19;
     let mut rest = x;
     while 10 <= rest {
