@@ -35,10 +35,10 @@ use Rattle.circuit.specs.Answers as Read
 use Rattle.circuit.specs.Answers.{gateOf}
 use Rattle.material.specs.declared.records.Cursor.{Cursor}
 use Rattle.material.specs.declared.records.Step.{Step}
-use Rattle.material.specs.Answers.{Accepted, Filed, sizesVerdict, stepOf, passAnswer, gateAnswer, recordsVerdict, lastAt}
+use Rattle.material.specs.Answers.{Accepted, Filed, sizesVerdict, stepOf, gateAnswer, recordsVerdict, lastAt}
 use Rattle.material.proofs.SizeLaws.{limits, is-n, is-m, is-q}
 use Rattle.material.proofs.RowLaws.{row-first}
-use Rattle.material.proofs.RecordLaws.{Reading, at-turn, gate-passed, turn-next, turn-fault, one-charged, answer-free, answer-wrong, answer-right}
+use Rattle.material.proofs.RecordLaws.{Reading, at-turn, passAnswer, gate-passed, turn-next, turn-fault, one-charged, answer-free, answer-wrong, answer-right}
 use Rattle.material.proofs.MaterialLaws.{by-record, by-last, material-file, filed}
 use Rattle.evaluate.specs.declared.list.Walk.{Walk}
 use Rattle.evaluate.specs.Answers.{restVerdict}
@@ -184,9 +184,9 @@ module _ (c ts s o : List ℕ) (z : Sizes) where
   wires known v =
       rw (is-n c z known, is-q c z known) at (evaluate-start c ts s o (Ready.Go z) (rw (v, ← known .sizes)) z refl)
 
--- ---- the row record of gate k at its turn, the answer to it given as `pass_gate` gives it
+-- ---- the row record of gate k at its turn, and the answer to it
 module _ (c : List ℕ) (z : Sizes) (s : List ℕ) (known : Filed c z s) (k : ℕ) (h : k < gates c) (g : Gate) (is-g : g ≡ gateAt c k) (here : Cursor)
-    (rows : RowsRight c s k (here .at)) (u : Step) (is-u : stepOf u ≡ passAnswer s (here .at) (rowsStored (getD s 2 0)) (g .code) (z .n + k + 1)) where
+    (rows : RowsRight c s k (here .at)) (u : Step) (is-u : stepOf u ≡ passAnswer s (here .at) (g .code) (z .n + k + 1)) where
   more : k < z .q
   more = omega (arith, is-q c z (known .circuit))
 
@@ -195,7 +195,7 @@ module _ (c : List ℕ) (z : Sizes) (s : List ℕ) (known : Filed c z s) (k : �
 
   at-gate : stepOf u ≡ gateAnswer c s k
   at-gate =
-      gate-passed c z s (rowsStored (getD s 2 0)) k (here .at) (at-turn c z s known k here reading more (rowsStored (getD s 2 0)) refl) g is-g u is-u
+      gate-passed c z s k (here .at) (at-turn c z s known k here reading more) g is-g u is-u
 
   row-past : (there : Cursor) → u ≡ Step.Next there → RowsRight c s (k + 1) (there .at)
   row-past there e =
@@ -251,7 +251,7 @@ module _ (c s : List ℕ) (k : ℕ) (h : k < gates c) (g : Gate) (is-g : g ≡ g
   guess-free e = record {
     rows = λ n known.
         row-past c (sizesOf c) s known k h g is-g here (before .rows n known) (Step.Next here)
-        (answer-free s (here .at) (rowsStored (getD s 2 0)) (g .code) (sizesOf c .n + k + 1) e) here refl;
+        (answer-free s (here .at) (g .code) (sizesOf c .n + k + 1) e) here refl;
   }
 
   module _ (charged : charge (kindOf (g .code)) ≡ 0 → ⊥) (due : ℕ) (is-due : due ≡ inputs c + k + 1) (there : Cursor)
@@ -271,7 +271,7 @@ module _ (c s : List ℕ) (k : ℕ) (h : k < gates c) (g : Gate) (is-g : g ≡ g
       gone-past : RowsRight c s (k + 1) (there .at)
       gone-past =
           row-past c (sizesOf c) s known k h g is-g here so-far (Step.Next there)
-          (answer-right s (here .at) (rowsStored (getD s 2 0)) (g .code) (sizesOf c .n + k + 1) charged right (there .at) (gone n)) there refl
+          (answer-right s (here .at) (g .code) (sizesOf c .n + k + 1) charged right (there .at) (omega (arith, gone n))) there refl
 
     guess-charged : Guessed c s (k + 1) (there .at)
     guess-charged = record { rows = λ n known. gone-past n known }
@@ -481,8 +481,8 @@ pub ruleset checked-cases = (checked-next, checked-last, checked-room, checked-a
 
 -- ---- check_record
 module _ (ts s : List ℕ) (w : Walk) (g : Gate) where
-  -- the answer to the gate's record, given as `pass_gate` gives it
-  module _ (u : Step) (is-u : stepOf u ≡ passAnswer s (w .here .at) (rowsStored (getD s 2 0)) (g .code) (w .z .n + w .k + 1)) where
+  -- the answer to the gate's record
+  module _ (u : Step) (is-u : stepOf u ≡ passAnswer s (w .here .at) (g .code) (w .z .n + w .k + 1)) where
     -- gate k of the circuit
     module _ (c o d : List ℕ) (left : ℕ) (h : w .k < gates c) (is : GateIs c (w .k) g)
         (t : Checked c ts s o (suc left) (w .k) (w .z) (w .here .at) d) where
@@ -517,7 +517,7 @@ module _ (ts s : List ℕ) (w : Walk) (g : Gate) where
       free-asks a = record { few = a .few; is-rows = a .is-rows; tokens = a .tokens; room = omega (arith, rw free at (a .room)) }
 
       pub free-passed : (d : List ℕ) (r : Walk) (d′ : List ℕ) → CheckedLeads ts s (w .k) (w .z) (w .here .at) d r d′ → CheckLeads ts s w g d r d′
-      free-passed = goes-past (Step.Next (w .here)) (answer-free s (w .here .at) (rowsStored (getD s 2 0)) (g .code) (w .z .n + w .k + 1) free) (w .here) refl
+      free-passed = goes-past (Step.Next (w .here)) (answer-free s (w .here .at) (g .code) (w .z .n + w .k + 1) free) (w .here) refl
 
     -- a charged one
     module _ (n : x ≡ 0 → ⊥) where
@@ -544,7 +544,7 @@ module _ (ts s : List ℕ) (w : Walk) (g : Gate) where
           leads = λ c o left h is t.
               refuses c ts s o left r d (RowRecord due) is-r (t .untouched)
               (stopped (Step.Fault (RowRecord due))
-              (rw is-due (answer-wrong s (w .here .at) (rowsStored (getD s 2 0)) (g .code) (w .z .n + w .k + 1) charged (sym is-b ∙ not-true b e)))
+              (rw is-due (answer-wrong s (w .here .at) (g .code) (w .z .n + w .k + 1) charged (sym is-b ∙ not-true b e)))
               c o d left h is t (RowRecord due) refl);
         }
 
@@ -556,8 +556,8 @@ module _ (ts s : List ℕ) (w : Walk) (g : Gate) where
           pub charged-right : (d : List ℕ) (r : Walk) (d′ : List ℕ) → CheckedLeads ts s (w .k) (w .z) (there .at) d r d′ → CheckLeads ts s w g d r d′
           charged-right =
               goes-past (Step.Next there)
-              (answer-right s (w .here .at) (rowsStored (getD s 2 0)) (g .code) (w .z .n + w .k + 1) charged (sym is-b ∙ not-false b e) (there .at)
-              (rw (a .is-rows) at is-there)) there refl
+              (answer-right s (w .here .at) (g .code) (w .z .n + w .k + 1) charged (sym is-b ∙ not-false b e) (there .at)
+              (omega (arith, is-there, a .is-rows))) there refl
 
 pub ruleset check-asks = (free-asks, charged-asks, charged-fits, charged-past)
 

@@ -1,5 +1,5 @@
 -- The whole of `check_material`: what each part is handed, and a law for each return. Assumes nothing.
-use Prim.Native.Nat.{ℕ, _+_, _-_, _≤_}
+use Prim.Native.Nat.{ℕ, _+_, _≤_}
 use native.Mathlib.Omega.{arith}
 use mathlib.Core.Path.{_≡_, refl, sym, _∙_}
 use mathlib.Core.List.{List}
@@ -10,7 +10,10 @@ use Rattle.model.specs.declared.Ran.{Ran}
 use Rattle.model.specs.Circuit.{circuitOf, gates}
 use Rattle.model.specs.Refusals.{Verdict, fine, refused, _then_, numberOf, placeOf, verdictOf, fileVerdict, rowStart, lastVerdict, materialVerdict}
 use Rattle.model.specs.Operations.{ranOf}
-use Rattle.material.specs.Answers.{Accepted, Filed, sizesVerdict, recordsVerdict, lastAt}
+use Rattle.model.proofs.Verdicts.{Given, yes-given, Turned, no-turned}
+use Rattle.material.specs.declared.records.Cursor.{Cursor}
+use Rattle.material.specs.declared.records.Step.{Step}
+use Rattle.material.specs.Answers.{Accepted, Filed, sizesVerdict, stepOf, recordsVerdict, recordsAnswer, lastAt}
 use Rattle.material.proofs.FileLaws.{file-verdict}
 use Rattle.material.proofs.SizeLaws.{outputs-many, gates-many, is-m}
 use Rattle.material.proofs.RowLaws.{last-start, file-holds}
@@ -45,25 +48,25 @@ module _ (c : List ℕ) (z : Sizes) (s : List ℕ) (known : Accepted c z) where
       start : rowStart (circuitOf c) s (gates c) + 2 + z .m ≡ length s
       start = rw (is-m c z known) (last-start c s (file-holds c s (filed .filed) .whole))
 
-      pub outputs-inside : z .m ≤ length s
-      outputs-inside = omega (arith, start)
+      -- 17 as it was tried, and where the reader is then
+      module _ (t : Step) (is-t : stepOf t ≡ recordsAnswer c s) where
+        pub material-record : (f : Refusal) → t ≡ Step.Fault f → verdictOf f ≡ materialVerdict (circuitOf c) s
+        material-record f i = go (no-turned (recordsVerdict c s) (verdictOf f) _ (rw i at is-t))
+          where
+            go : Turned (recordsVerdict c s) (verdictOf f) → verdictOf f ≡ materialVerdict (circuitOf c) s
+            go u = by-record c z s filed (verdictOf f) (u .is-w ∙ sym (u .is-v)) (numberOf f) (placeOf f) refl
 
-      pub mark-inside : 2 ≤ length s - z .m
-      mark-inside = omega (arith, start)
+        module _ (last : Cursor) (i : t ≡ Step.Next last) where
+          at-last : Given (recordsVerdict c s) (last .at) (rowStart (circuitOf c) s (gates c))
+          at-last = yes-given (recordsVerdict c s) (last .at) (rowStart (circuitOf c) s (gates c)) (rw i at is-t)
 
-      pub last-inside : length s - z .m - 2 + 2 + z .m ≤ length s
-      last-inside = omega (arith, start)
+          pub last-inside : last .at + 2 + z .m ≤ length s
+          last-inside = omega (arith, start, at-last .is-result)
 
-      -- 17 as it was tried
-      module _ (t : Ran) (is-t : ranOf t ≡ recordsVerdict c s) where
-        pub material-record : (f : Refusal) → t ≡ Ran.Refused f → verdictOf f ≡ materialVerdict (circuitOf c) s
-        material-record f i = by-record c z s filed (verdictOf f) (rw i at is-t) (numberOf f) (placeOf f) refl
-
-        pub material-last : t ≡ Ran.Done → (u : Ran) → ranOf u ≡ lastAt s (length s - z .m - 2) (z .m) → ranOf u ≡ materialVerdict (circuitOf c) s
-        material-last i u is-u =
-            by-last c z s filed (sym (rw i at is-t)) (ranOf u) (length s - z .m - 2) (omega (arith, start)) is-u
+          pub material-last : (u : Ran) → ranOf u ≡ lastAt s (last .at) (z .m) → ranOf u ≡ materialVerdict (circuitOf c) s
+          material-last u is-u = by-last c z s filed (at-last .is-fine) (ranOf u) (last .at) (at-last .is-result) is-u
 
 pub ruleset material-cases = (material-file, material-record, material-last)
 
 -- what the calls ask
-pub ruleset material-calls = (filed, outputs-inside, mark-inside, last-inside)
+pub ruleset material-calls = (filed, last-inside)

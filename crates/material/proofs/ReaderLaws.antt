@@ -18,7 +18,7 @@ use Rattle.model.specs.Refusals.{rowRecordAt}
 use Rattle.model.proofs.Verdicts.{and-both}
 use Rattle.material.specs.declared.reader.Standing.{Standing}
 use Rattle.material.specs.declared.reader.Record.{Record}
-use Rattle.material.specs.Reader.{ifSo, marked, recordBytes, gateStanding, standingAt, pastAt}
+use Rattle.material.specs.Reader.{ifSo, marked, recordBytes, gateStanding, standingAt, pastAt, isRowOf}
 
 -- ---- marks
 and-false : (a b : Bool) → b ≡ false → (a && b) ≡ false
@@ -173,6 +173,25 @@ module _ (s : List ℕ) (at : ℕ) where
   row-record due h =
       simp (le-leb _ _ h)
       (of-mark (markAt s at 0x47 0x54) (leb (at + recordBytes s) (length s)) (leb (at + 2) (length s) && markAt s at 0x47 0x44) due (record { 0 = be16 s (at + 2) }))
+
+  of-whole : (m c : Bool) (due : ℕ) (w : Wire) → isRowOf due (ifSo m (Standing.Gate w) (ifSo c Standing.Last Standing.Nothing)) ≡ (m && eqb (w .0) due)
+  of-whole true c due w = refl
+  of-whole false true due w = refl
+  of-whole false false due w = refl
+
+  -- where the rows lie within the material too
+  module _ (room : at + recordBytes s ≤ length s) (due : ℕ) where
+    pub whole-record : isRowOf due (standingAt s at) ≡ rowRecordAt s at due
+    unfolding standingAt gateStanding marked rowRecordAt
+    whole-record =
+        let four : at + 4 ≤ length s = omega arith in
+        simp (le-leb _ _ room, le-leb _ _ four) (of-whole (markAt s at 0x47 0x54) (leb (at + 2) (length s) && markAt s at 0x47 0x44) due (record { 0 = be16 s (at + 2) }))
+
+    pub record-stands : rowRecordAt s at due ≡ true → standingAt s at ≡ Standing.Gate (record { 0 = due })
+    unfolding standingAt gateStanding rowRecordAt
+    record-stands e =
+        let both = and-both (markAt s at 0x47 0x54) (eqb (be16 s (at + 2)) due) e in
+        simp (stands s at 0x47 0x54 4 (omega arith) (both .0), le-leb _ _ room, eqb-true (be16 s (at + 2)) due (both .1))
 
   no-mark : (a b c : Bool) (w : Wire) → c ≡ false → isLast (ifSo a (ifSo b (Standing.Gate w) (Standing.Cut w)) (ifSo c Standing.Last Standing.Nothing)) ≡ false
   no-mark true true c w e = refl

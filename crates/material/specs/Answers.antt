@@ -1,5 +1,5 @@
 -- What is known of the arguments, and the answers of the inner functions, in the model's terms.
-use Prim.Native.Nat.{ℕ, _+_, _*_, _<_}
+use Prim.Native.Nat.{ℕ, _+_, _<_}
 use mathlib.Core.Path.{_≡_}
 use mathlib.Core.Bool.{Bool, not, _&&_}
 use mathlib.Core.List.{List}
@@ -7,11 +7,12 @@ use lib.ListN.{length, getD}
 use lib.Dec.{ltb, eqb}
 use Rattle.model.specs.declared.Sizes.{Sizes}
 use Rattle.model.specs.Bytes.{be16}
-use Rattle.model.specs.Circuit.{circuitOf, gates, kindOf, charge, markAt}
-use Rattle.model.specs.Material.{rowsStored, materialLength}
-use Rattle.model.specs.Refusals.{Verdict, fine, refuse, _then_, firstOf, verdictOf, circuitVerdict, schemeVerdict, fileVerdict, isCharged, rowStart, rowRecordAt, rowVerdict}
+use Rattle.model.specs.Circuit.{circuitOf, gates, markAt}
+use Rattle.model.specs.Material.{materialLength}
+use Rattle.model.specs.Refusals.{Verdict, fine, refuse, _then_, firstOf, verdictOf, circuitVerdict, schemeVerdict, fileVerdict, rowStart, rowVerdict}
 use Rattle.model.specs.Operations.{Answer, no, yes, answer, sizesOf}
 use Rattle.material.specs.declared.records.Step.{Step}
+use Rattle.material.specs.Reader.{standingAt, pastAt, isRowOf}
 
 -- c is an accepted circuit of sizes z
 pub record Accepted (c : List ℕ) (z : Sizes) : Type 0 where
@@ -42,19 +43,13 @@ abbrev pub stepOf : Step → Answer ℕ
 stepOf (Step.Next there) = yes (there .at)
 stepOf (Step.Fault f) = no (verdictOf f)
 
--- past a record of this many rows at an index, which is due for a wire
-abbrev pub nextAnswer : List ℕ → ℕ → ℕ → ℕ → Answer ℕ
-nextAnswer s at rows due = answer (refuse (not (rowRecordAt s at due)) 17 due) (at + 4 + 16 * rows)
+-- where the record of a wire is due: past what a reader finds at a place, if it is that record
+abbrev pub nextAnswer : List ℕ → ℕ → ℕ → Answer ℕ
+nextAnswer s at due = answer (refuse (not (isRowOf due (standingAt s at))) 17 due) (pastAt s at)
 
--- past the record of a gate of this code and this wire, if it has one: it is at the index
-abbrev pub passAnswer : List ℕ → ℕ → ℕ → ℕ → ℕ → Answer ℕ
-passAnswer s at rows code due =
-    answer (refuse (isCharged (kindOf code) && not (rowRecordAt s at due)) 17 due) (at + charge (kindOf code) * (4 + 16 * rows))
-
--- gate k of the circuit at its turn, when its record, if it has one, is at the index; rows are those of the material's scheme
-pub record AtGate (c : List ℕ) (z : Sizes) (s : List ℕ) (rows k at : ℕ) : Type 0 where
+-- gate k of the circuit at its turn, when its record, if it has one, is at the index
+pub record AtGate (c : List ℕ) (z : Sizes) (s : List ℕ) (k at : ℕ) : Type 0 where
   pub known : Filed c z s
-  pub is-rows : rows ≡ rowsStored (getD s 2 0)
   pub more : k < z .q
   pub few : z .n + k < 65535
   pub placed : at ≡ rowStart (circuitOf c) s k
@@ -66,6 +61,10 @@ gateAnswer c s k = answer (rowVerdict (circuitOf c) s k) (rowStart (circuitOf c)
 -- 17 of all gates
 abbrev pub recordsVerdict : List ℕ → List ℕ → Verdict
 recordsVerdict c s = firstOf (rowVerdict (circuitOf c) s) (gates c)
+
+-- and past the records of them all: where the last record starts
+abbrev pub recordsAnswer : List ℕ → List ℕ → Answer ℕ
+recordsAnswer c s = answer (recordsVerdict c s) (rowStart (circuitOf c) s (gates c))
 
 -- ---- 18 of a last record that starts at an index and has m bytes
 

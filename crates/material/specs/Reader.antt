@@ -4,7 +4,7 @@ use Prim.Native.Nat.{ℕ, _+_, _*_}
 use mathlib.Core.Bool.{Bool, true, false, _&&_}
 use mathlib.Core.List.{List}
 use lib.ListN.{length, getD}
-use lib.Dec.{leb}
+use lib.Dec.{leb, eqb}
 use Rattle.model.specs.Bytes.{be16}
 use Rattle.model.specs.Circuit.{markAt}
 use Rattle.model.specs.Material.{rowsStored}
@@ -46,3 +46,10 @@ pastAt s at = pastOf s at (standingAt s at)
 -- both
 abbrev pub recordOf : List ℕ → ℕ → Record
 recordOf s at = record { standing = standingAt s at; next = pastAt s at }
+
+-- it is the record of a gate with this wire number
+abbrev pub isRowOf : ℕ → Standing → Bool
+isRowOf due (Gate w) = eqb (w .0) due
+isRowOf due (Cut w) = false
+isRowOf due Last = false
+isRowOf due Nothing = false

@@ -8,6 +8,7 @@ ghost use Rattle.model.specs.Operations.{ranOf};
 ghost use Rattle.material.specs.Answers.{Accepted};
 use crate::file::check_file;
 use crate::last::check_last;
+use crate::records::Step;
 use crate::records::check_records;
 use model::Ran;
 use model::Sizes;
@@ -48,12 +49,8 @@ pub fn check_material(circuit: &[u8], z: Sizes, material: &[u8]) -> Ran
     match check_file(material, z) {
         Ran::Refused(f) => Ran::Refused(f),
         Ran::Done => match check_records(circuit, z, material) {
-            Ran::Refused(f) => Ran::Refused(f),
-            Ran::Done => {
-                let m = z.m;
-                let start = material.len() - m - 2;
-                check_last(material, m, start)
-            }
+            Step::Fault(f) => Ran::Refused(f),
+            Step::Next(last) => check_last(material, z.m, last.at),
         },
     }
 }

@@ -1,6 +1,7 @@
 // A reader over the lent material (01, Material): it goes from one marked record to the next and remembers how far it is.
 // What it finds is worked out by functions of a slice and a place. A function that takes, makes or holds a `Reader` takes it
-// apart and calls one of those; its proof is a walk of its steps by hand, and above `found_at` and `record_at` nobody needs one.
+// apart and calls one of those; its proof is a walk of its steps by hand, and above `first_record`, `found_at` and `record_at` nobody
+// needs one.
 ghost use mathlib.Core.Path.{_≡_};
 ghost use Prim.Native.Nat.{_+_, _≤_, _<_};
 ghost use lib.ListN.{length};
@@ -116,6 +117,14 @@ impl<'a> Reader<'a> {
             at,
         }
     }
+}
+
+// Where a reader of a material begins: at its first record.
+pub fn first_record(material: &[u8]) -> usize
+    ensures { λ r. ⌜ r ≡ 9 ⌝ }
+{
+    let here = Reader::first(material);
+    here.at
 }
 
 // What a reader at a place of a material finds.

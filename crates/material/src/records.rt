@@ -2,27 +2,24 @@
 ghost use mathlib.Core.Path.{_≡_};
 ghost use Prim.Native.Nat.{_+_, _*_, _≤_, _<_};
 ghost use lib.ListN.{length};
-ghost use Rattle.model.specs.Circuit.{kindOf, charge};
 ghost use Rattle.model.specs.Refusals.{rowRecordAt};
-ghost use Rattle.model.specs.Operations.{ranOf};
-ghost use Rattle.material.specs.Answers.{Filed, AtGate, stepOf, nextAnswer, passAnswer, gateAnswer, recordsVerdict};
+ghost use Rattle.material.specs.Answers.{Filed, AtGate, stepOf, nextAnswer, gateAnswer, recordsAnswer};
 use crate::reader::Standing;
+use crate::reader::first_record;
 use crate::reader::found_at;
-use crate::rows_stored;
-use circuit::code::code_kind;
+use crate::reader::record_at;
+use circuit::code::code_charge;
 use circuit::gates::gate_at;
-use model::Kind;
-use model::Ran;
 use model::Refusal;
 use model::Sizes;
 use model::Wire;
 
-// A place in a material: where the next marked record starts.
+// A place in a material: where a marked record starts.
 pub struct Cursor {
     pub at: usize,
 }
 
-// What a step over the records finds: the next place, or the fault.
+// What a step over the records finds: where the next one starts, or the fault.
 pub enum Step {
     Next(Cursor),
     Fault(Refusal),
@@ -45,19 +42,6 @@ impl Cursor {
             at: self.at + 4 + 16 * rows,
         }
     }
-
-    // Past the row record here, if it has the mark 47 54 and the wire number that is due. That its rows lie within the material
-    // is asked of the caller, for as many as it names.
-    pub fn next(self, material: &[u8], rows: usize, due: Wire) -> Step
-        requires { ⌜ self .at + 4 + 16 * rows ≤ length (now material) ⌝ }
-        ensures { λ r. ⌜ stepOf r ≡ nextAnswer (now (material .entry)) (self .at) rows (due .0) ⌝ }
-    {
-        if is_row(material, self.at, due) {
-            Step::Next(self.past(rows))
-        } else {
-            Step::Fault(Refusal::RowRecord(due))
-        }
-    }
 }
 
 // Whether a row record with the wire number that is due is at an index: what a reader finds there.
@@ -73,55 +57,63 @@ pub fn is_row(material: &[u8], at: usize, due: Wire) -> bool
     }
 }
 
-// A gate at its turn, by its code and its wire: a charged gate has the record here, and the next is past it; a free gate has
-// none, and an accepted circuit has no refused one.
-pub fn pass_gate(material: &[u8], rows: usize, code: u8, due: Wire, here: Cursor) -> Step
-    requires { ⌜ here .at + charge (kindOf code) * (4 + 16 * rows) ≤ length (now material) ⌝ }
-    ensures { λ r. ⌜ stepOf r ≡ passAnswer (now (material .entry)) (here .at) rows code (due .0) ⌝ }
+// The record of a wire is due where the reader is. If it stands there, the reader goes past it; if anything else does, that is the
+// fault. For any bytes and any place.
+fn next_record(material: &[u8], here: Cursor, due: Wire) -> Step
+    ensures { λ r. ⌜ stepOf r ≡ nextAnswer (now (material .entry)) (here .at) (due .0) ⌝ }
 {
-    match code_kind(code) {
-        Kind::Charged(_, _, _) => here.next(material, rows, due),
-        Kind::Free { p: _, q: _, c: _ } => Step::Next(here),
-        Kind::Refused => Step::Next(here),
+    let found = record_at(material, here.at);
+    let fault = Step::Fault(Refusal::RowRecord(due));
+    let standing = found.standing;
+    match standing {
+        Standing::Gate(own) => {
+            if own.0 == due.0 {
+                Step::Next(Cursor { at: found.next })
+            } else {
+                fault
+            }
+        }
+        Standing::Cut(_) => fault,
+        Standing::Last => fault,
+        Standing::Nothing => fault,
     }
 }
 
-// Gate k of a circuit at its turn.
-fn pass_gate_at(
-    circuit: &[u8],
-    z: Sizes,
-    material: &[u8],
-    rows: usize,
-    k: usize,
-    here: Cursor,
-) -> Step
-    requires { ⌜ AtGate (now circuit) z (now material) rows k (here .at) ⌝ }
+// Gate k of a circuit at its turn: the record of a charged gate is due where the reader is. A free gate has none, and an accepted
+// circuit has no refused one: nothing is read.
+fn pass_gate(circuit: &[u8], z: Sizes, material: &[u8], k: usize, here: Cursor) -> Step
+    requires { ⌜ AtGate (now circuit) z (now material) k (here .at) ⌝ }
     ensures { λ r. ⌜ stepOf r ≡ gateAnswer (now (circuit .entry)) (now (material .entry)) k ⌝ }
 {
     let g = gate_at(circuit, k);
+    if code_charge(g.code) == 0 {
+        return Step::Next(here);
+    }
     let due = Wire((z.n + k + 1) as u16);
-    pass_gate(material, rows, g.code, due, here)
+    next_record(material, here, due)
 }
 
-// Refusal 17: the gates are gone through in file order, and each charged gate has the next record.
-pub fn check_records(circuit: &[u8], z: Sizes, material: &[u8]) -> Ran
+// Refusal 17: the gates are gone through in file order, and a reader goes from the first record on, past that of each charged gate.
+// Without a fault it is then at the last record.
+pub fn check_records(circuit: &[u8], z: Sizes, material: &[u8]) -> Step
     requires { ⌜ Filed (now circuit) z (now material) ⌝ }
-    ensures { λ r. ⌜ ranOf r ≡ recordsVerdict (now (circuit .entry)) (now (material .entry)) ⌝ }
+    ensures { λ r. ⌜ stepOf r ≡ recordsAnswer (now (circuit .entry)) (now (material .entry)) ⌝ }
 {
     let q = z.q;
-    let rows = rows_stored(material[2]);
-    let mut here = Cursor::first();
+    let mut here = Cursor {
+        at: first_record(material),
+    };
     let mut k: usize = 0;
     let found = loop {
         if q <= k {
-            break Ran::Done;
+            break Step::Next(here);
         }
-        match pass_gate_at(circuit, z, material, rows, k, here) {
+        match pass_gate(circuit, z, material, k, here) {
             Step::Next(there) => {
                 here = there;
             }
             Step::Fault(f) => {
-                break Ran::Refused(f);
+                break Step::Fault(f);
             }
         }
         k += 1;

@@ -8,6 +8,5 @@ pub check-material-spec : {M : Type 1} → statement M
 check-material-spec =
     tie.close
     (tie.spec (λ c κs. (search few-outputs, search few-charges)) (λ c. search needs) (λ c. search needs)
-    (λ c κs. search material-calls) (λ c. search needs) (λ c. search needs) (λ c. search material-calls)
-    (λ c. search material-calls) (λ c κs. search material-calls) (λ c. search material-cases)
-    (λ c. search material-cases) (λ c. search material-cases))
+    (λ c κs. search material-calls) (λ c. search needs) (λ c. search needs) (λ c κs. search material-calls)
+    (λ c. search material-cases) (λ c. search material-cases) (λ c. search material-cases))
