@@ -9,3 +9,4 @@ pub mod RecordLaws
 pub mod LastLaws
 pub mod MaterialLaws
 pub mod WellFormed
+pub mod ReadsOn
