@@ -8,6 +8,8 @@ use lib.ListN.{length}
 use lib.Dec.{eqb}
 use borrow.Author.Tests.{eq-eqb, ne-eqb}
 use Rattle.model.specs.declared.Gate.{Gate}
+use Rattle.model.specs.declared.Truth.{Truth}
+use Rattle.model.specs.declared.Kind.{Kind}
 use Rattle.model.specs.declared.Sizes.{Sizes}
 use Rattle.model.specs.declared.Refusal.{Refusal}
 use Rattle.model.specs.declared.Wire.{Wire}
@@ -16,6 +18,7 @@ use Rattle.model.specs.Circuit.{circuitOf, gates, gateAt, kindOf, charge}
 use Rattle.model.specs.Refusals.{fine, refused, refuse, verdictOf, firstOf, isCharged, rowStart, rowRecordAt, rowVerdict}
 use Rattle.model.specs.Operations.{Answer, no, yes, answer}
 use Rattle.model.proofs.Verdicts.{yes-given, Turned, no-turned, first-next, first-found}
+use Rattle.circuit.specs.Answers.{meaning}
 use Rattle.material.specs.declared.records.Cursor.{Cursor}
 use Rattle.material.specs.declared.records.Step.{Step}
 use Rattle.material.specs.declared.reader.Standing.{Standing}
@@ -133,23 +136,27 @@ module _ (c : List ℕ) (z : Sizes) (s : List ℕ) (k at : ℕ) (turn : AtGate c
         at-gate : rowVerdict (circuitOf c) s k ≡ refuse (isCharged (kindOf (g .code)) && not (rowRecordAt s at (z .n + k + 1))) 17 (z .n + k + 1)
         at-gate = unfold rowVerdict in simp (code-at c k inside, ← is-g, ← turn .placed, inputs-same, is-n c z (turn .known .circuit))
 
-    -- its charge as it was read
-    module _ (x : ℕ) (is-x : x ≡ charge (kindOf (g .code))) where
-      pub gate-free : x ≡ 0 → yes at ≡ gateAnswer c s k
-      gate-free e = gate-passed (Step.Next (record { at = at })) (answer-free s at (g .code) (z .n + k + 1) (sym is-x ∙ e))
+    -- its code's kind as it was read
+    module _ (kind : Kind) (is-kind : meaning kind ≡ kindOf (g .code)) where
+      passed : charge (meaning kind) ≡ 0 → yes at ≡ gateAnswer c s k
+      passed e = gate-passed (Step.Next (record { at = at })) (answer-free s at (g .code) (z .n + k + 1) (rw is-kind at e))
 
-      pub gate-charged : (x ≡ 0 → ⊥) → (r : Step) → stepOf r ≡ nextAnswer s at (z .n + k + 1) → stepOf r ≡ gateAnswer c s k
-      gate-charged n r is-r = gate-passed r (is-r ∙ answer-read s at (g .code) (z .n + k + 1) charged (omega (arith, room)))
+      pub gate-free : (p q d : ℕ) → kind ≡ Kind.Free p q d → yes at ≡ gateAnswer c s k
+      gate-free p q d e = passed (rw e)
+
+      pub gate-refused : kind ≡ Kind.Refused → yes at ≡ gateAnswer c s k
+      gate-refused e = passed (rw e)
+
+      pub gate-charged : (u v o : Truth) → kind ≡ Kind.Charged u v o → (r : Step) → stepOf r ≡ nextAnswer s at (z .n + k + 1) → stepOf r ≡ gateAnswer c s k
+      gate-charged u v o e r is-r = gate-passed r (is-r ∙ answer-read s at (g .code) (z .n + k + 1) (λ none. absurd (omega (arith, one))) (omega (arith, room)))
         where
-          charged : charge (kindOf (g .code)) ≡ 0 → ⊥
-          charged e = n (is-x ∙ e)
+          one : charge (kindOf (g .code)) ≡ 1
+          one = rw (← is-kind, e)
 
           room : at + 1 * recordBytes s ≤ length s
-          room =
-              let one = one-charged (kindOf (g .code)) charged .1 in
-              rw (← one, turn .placed, is-g) (omega (arith, row-room c s (file-holds c s (turn .known .filed) .whole) k inside))
+          room = rw (← one, turn .placed, is-g) (omega (arith, row-room c s (file-holds c s (turn .known .filed) .whole) k inside))
 
-pub ruleset gate-cases = (gate-free, gate-charged)
+pub ruleset gate-cases = (gate-free, gate-refused, gate-charged)
 
 -- ---- check_records: of q gates k have no fault, and the next record is at the cursor
 pub record Reading (c s : List ℕ) (q k : ℕ) (here : Cursor) : Type 0 where

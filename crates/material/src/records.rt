@@ -8,8 +8,9 @@ use crate::reader::Standing;
 use crate::reader::first_record;
 use crate::reader::found_at;
 use crate::reader::record_at;
-use circuit::code::code_charge;
+use circuit::code::code_kind;
 use circuit::gates::gate_at;
+use model::Kind;
 use model::Refusal;
 use model::Sizes;
 use model::Wire;
@@ -44,7 +45,8 @@ impl Cursor {
     }
 }
 
-// Whether a row record with the wire number that is due is at an index: what a reader finds there.
+// Whether a row record with the wire number that is due is at an index: what a reader finds there. Whether its rows lie within the
+// material is not asked: whoever goes over a list of gate records looks before the material's length is known to be right.
 pub fn is_row(material: &[u8], at: usize, due: Wire) -> bool
     requires { ⌜ at + 4 ≤ length (now material) ⌝ }
     ensures { λ r. ⌜ r ≡ rowRecordAt (now (material .entry)) at (due .0) ⌝ }
@@ -86,11 +88,12 @@ fn pass_gate(circuit: &[u8], z: Sizes, material: &[u8], k: usize, here: Cursor) 
     ensures { λ r. ⌜ stepOf r ≡ gateAnswer (now (circuit .entry)) (now (material .entry)) k ⌝ }
 {
     let g = gate_at(circuit, k);
-    if code_charge(g.code) == 0 {
-        return Step::Next(here);
-    }
     let due = Wire((z.n + k + 1) as u16);
-    next_record(material, here, due)
+    match code_kind(g.code) {
+        Kind::Charged(_, _, _) => next_record(material, here, due),
+        Kind::Free { p: _, q: _, c: _ } => Step::Next(here),
+        Kind::Refused => Step::Next(here),
+    }
 }
 
 // Refusal 17: the gates are gone through in file order, and a reader goes from the first record on, past that of each charged gate.
