@@ -209,22 +209,46 @@ module _ (c : List ℕ) (z : Sizes) (s : List ℕ) (known : Filed c z s) (k : �
 
 module _ (s : List ℕ) (at rows x due : ℕ) where
   pub passed-free : x ≡ 0 → RowPassed s at rows x due at
-  passed-free e = record { free = λ _. refl; found = λ n. absurd (n e); gone = λ n. absurd (n e); near = omega arith }
+  passed-free e = record {
+    free = λ _. refl;
+    right = λ n. absurd (n e);
+    within = λ n. absurd (n e);
+    found = λ n. absurd (n e);
+    gone = λ n. absurd (n e);
+    near = omega arith;
+  }
 
   module _ (n : x ≡ 0 → ⊥) where
-    pub passed-not : RowPassed s at rows x due 0
-    passed-not = record { free = λ e. absurd (n e); found = λ _ z. absurd (z refl); gone = λ _ z. absurd (z refl); near = omega arith }
-
-    -- whether its record is there, as it was read
-    pub passed-right : (b : Bool) → b ≡ rowRecordAt s at due → b ≡ true → (there : ℕ) → there ≡ at + 4 + 16 * rows → RowPassed s at rows x due there
-    passed-right b is-b e there is-there = record {
-      free = λ f. absurd (n f);
-      found = λ _ _. sym is-b ∙ e;
-      gone = λ _ _. is-there;
+    -- no record is there
+    passed-not : (at + 4 ≤ length s → rowRecordAt s at due ≡ false) → RowPassed s at rows x due 0
+    passed-not h = record {
+      free = λ e. absurd (n e);
+      right = λ _ l e. neither (h l) e;
+      within = λ _ z. absurd (z refl);
+      found = λ _ z. absurd (z refl);
+      gone = λ _ z. absurd (z refl);
       near = omega arith;
     }
 
-pub ruleset passed-cases = (passed-free, passed-not, passed-right)
+    pub passed-short : length s < at + 4 → RowPassed s at rows x due 0
+    passed-short h = passed-not (λ l. absurd (omega arith))
+
+    -- whether its record is there, as it was read
+    module _ (b : Bool) (is-b : b ≡ rowRecordAt s at due) where
+      pub passed-wrong : b ≡ false → RowPassed s at rows x due 0
+      passed-wrong e = passed-not (λ _. sym is-b ∙ e)
+
+      pub passed-right : at + 4 ≤ length s → b ≡ true → (there : ℕ) → there ≡ at + 4 + 16 * rows → RowPassed s at rows x due there
+      passed-right l e there is-there = record {
+        free = λ f. absurd (n f);
+        right = λ _ _ _. is-there;
+        within = λ _ _. l;
+        found = λ _ _. sym is-b ∙ e;
+        gone = λ _ _. is-there;
+        near = omega arith;
+      }
+
+pub ruleset passed-cases = (passed-free, passed-short, passed-wrong, passed-right)
 
 -- ---- where the next row record is due, past that of gate k
 

@@ -117,10 +117,12 @@ pub record Few (k : ℕ) (z : Sizes) (most : ℕ) : Type 0 where
   pub outputs-few : z .m ≤ z .q
   pub charged-few : z .p ≤ most
 
--- past the row record, of so many rows, of a gate of charge x: the index itself for a free gate; for a charged one past its record, which stands there
--- with its mark and the wire number that is due, or 0
+-- past the row record, of so many rows, of a gate of charge x: the index itself for a free gate; for a charged one past its record, exactly if it stands
+-- there with its mark and the wire number that is due, and else 0
 pub record RowPassed (s : List ℕ) (at rows x due past : ℕ) : Type 0 where
   pub free : x ≡ 0 → past ≡ at
+  pub right : (x ≡ 0 → ⊥) → at + 4 ≤ length s → rowRecordAt s at due ≡ true → past ≡ at + 4 + 16 * rows
+  pub within : (x ≡ 0 → ⊥) → (past ≡ 0 → ⊥) → at + 4 ≤ length s
   pub found : (x ≡ 0 → ⊥) → (past ≡ 0 → ⊥) → rowRecordAt s at due ≡ true
   pub gone : (x ≡ 0 → ⊥) → (past ≡ 0 → ⊥) → past ≡ at + 4 + 16 * rows
   pub near : past ≤ at + 4 + 16 * rows
