@@ -1,5 +1,6 @@
 -- What the answers of this crate's inner functions say, in the model's terms.
 pub mod Answers
+pub mod Pick
 pub mod Written
 pub mod Walk
 pub mod Whole

@@ -1,7 +1,8 @@
 // The garbler's side (01, Operations): garble, encode and pick.
 ghost use mathlib.Core.Path.{_≡_};
 ghost use Rattle.model.specs.Refusals.{pickVerdict};
-ghost use Rattle.model.specs.Operations.{ranOf, garbledOf, GarbleIs, EncodeIs, pickPart};
+ghost use Rattle.model.specs.Operations.{ranOf, garbledOf, GarbleIs, EncodeIs};
+ghost use Rattle.garble.specs.Pick.{PartIs};
 use crate::inputs::encode_inputs;
 use crate::ready::encode_ready;
 use crate::ready::garble_ready;
@@ -91,7 +92,7 @@ pub fn pick_check(zeros: &[u8], ones: &[u8], wire: u16, bit: u8) -> Ran
 
 // The token of a wire for a bit: a part of the one list or the other, or an empty part where `pick_check` refuses.
 pub fn pick<'a>(zeros: &'a [u8], ones: &'a [u8], wire: u16, bit: u8) -> &'a [u8]
-    ensures { λ r. ⌜ now r ≡ pickPart (now (zeros .entry)) (now (ones .entry)) wire bit ⌝ }
+    ensures { λ r. ⌜ PartIs (zeros .entry) (ones .entry) wire bit r ⌝ }
 {
     match pick_check(zeros, ones, wire, bit) {
         Ran::Refused(_) => &zeros[..0],
