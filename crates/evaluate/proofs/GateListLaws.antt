@@ -317,11 +317,17 @@ all-tried c s o d left k z at t h =
 
 module _ (ts s : List ℕ) (k : ℕ) (z : Sizes) (here there : Cursor) (rows : ℕ) (is-rows : rows ≡ rowsStored (getD s 2 0)) (r : Walk) where
   pub tried-next : k + 1 < z .q → GoesTo 0 (k + 1) z there rows r → TriedLeads ts s k z (here .at) (there .at) r
-  tried-next h g = record { leads = λ c o d left _ t. goes-0 c ts s o left r d (k + 1) z there rows is-rows (omega (arith, t .is-q)) g t }
+  tried-next h g = record {
+    kept = λ _. ap (λ (x : Cursor). x .at) (g .is-here);
+    starts = λ _ e. absurd (omega (arith, g .is-pass));
+    leads = λ c o d left _ t. goes-0 c ts s o left r d (k + 1) z there rows is-rows (omega (arith, t .is-q)) g t;
+  }
 
   module _ (last : z .q ≤ k + 1) where
     pub tried-tokens : (length ts ≡ 16 * z .n → ⊥) → Ended (Evaluated.Refused (TokensLength (length ts))) r → TriedLeads ts s k z (here .at) (there .at) r
     tried-tokens h e = record {
+      kept = λ p. absurd (omega (arith, e .over));
+      starts = λ _ p. absurd (omega (arith, e .over));
       leads = λ c o d left _ t.
           let known = all-tried c s o d left (k + 1) z (there .at) t last in
           refuses c ts s o left r d (TokensLength (length ts)) e (t .untouched)
@@ -332,6 +338,8 @@ module _ (ts s : List ℕ) (k : ℕ) (z : Sizes) (here there : Cursor) (rows : �
     module _ (l : length ts ≡ 16 * z .n) (u : Ran) (is-u : ranOf u ≡ sizesVerdict z s) where
       pub tried-file : (f : Refusal) → u ≡ Ran.Refused f → Ended (Evaluated.Refused f) r → TriedLeads ts s k z (here .at) (there .at) r
       tried-file f i e = record {
+        kept = λ p. absurd (omega (arith, e .over));
+        starts = λ _ p. absurd (omega (arith, e .over));
         leads = λ c o d left _ t.
             let known = all-tried c s o d left (k + 1) z (there .at) t last in
             refuses c ts s o left r d f e (t .untouched)
@@ -340,9 +348,11 @@ module _ (ts s : List ℕ) (k : ℕ) (z : Sizes) (here there : Cursor) (rows : �
 
       module _ (i : u ≡ Ran.Done) where
         -- to a gate whose row record is due at an index, those before it right
-        to-record : (j : ℕ) (at : Cursor) → GoesTo 1 j z at rows r → j ≤ k → ((c : List ℕ) → Guessed c s k (here .at) → Filed c z s → RowsRight c s j (at .at))
+        to-record : (j : ℕ) (at : Cursor) → GoesTo 1 j z at rows r → j ≤ k → ((here .at ≡ 0 → ⊥) → j ≡ k) → ((c : List ℕ) → Guessed c s k (here .at) → Filed c z s → RowsRight c s j (at .at))
             → TriedLeads ts s k z (here .at) (there .at) r
-        to-record j at g low right = record {
+        to-record j at g low start right = record {
+          kept = λ p. absurd (omega (arith, g .is-pass));
+          starts = λ n _. g .is-k ∙ start n;
           leads = λ c o d left before t.
               let known = filed c z s (all-tried c s o d left (k + 1) z (there .at) t last) u is-u i in
               goes-1 c ts s o left r d j z at rows is-rows (omega (arith, t .within)) g
@@ -357,12 +367,12 @@ module _ (ts s : List ℕ) (k : ℕ) (z : Sizes) (here there : Cursor) (rows : �
         }
 
         -- the first, or the last
-        pub tried-first : (first : Cursor) → first .at ≡ 9 → GoesTo 1 0 z first rows r → TriedLeads ts s k z (here .at) (there .at) r
-        tried-first first at g =
-            to-record 0 first g (omega arith) (λ c _ _. (record { no-fault = unfold firstOf in refl; placed = at ∙ sym (row-first c s) }))
+        pub tried-first : here .at ≡ 0 → (first : Cursor) → first .at ≡ 9 → GoesTo 1 0 z first rows r → TriedLeads ts s k z (here .at) (there .at) r
+        tried-first none first at g =
+            to-record 0 first g (omega arith) (λ n. absurd (n none)) (λ c _ _. (record { no-fault = unfold firstOf in refl; placed = at ∙ sym (row-first c s) }))
 
         pub tried-last : (here .at ≡ 0 → ⊥) → GoesTo 1 k z here rows r → TriedLeads ts s k z (here .at) (there .at) r
-        tried-last n g = to-record k here g (omega arith) (λ c before known. before .rows n (rw (known .circuit .sizes) at known))
+        tried-last n g = to-record k here g (omega arith) (λ _. refl) (λ c before known. before .rows n (rw (known .circuit .sizes) at known))
 
 pub ruleset tried-cases = (tried-next, tried-tokens, tried-file, tried-first, tried-last)
 
@@ -417,6 +427,8 @@ module _ (ts s : List ℕ) (w : Walk) (g : Gate) (found : GateRead) (is-found : 
   pub try-fine : Tries s w → (x : ℕ) → found ≡ GateRead.Fine x → (there : Cursor) → RowPassed s (w .here .at) (w .rows) x (w .z .n + w .k + 1) (there .at) → (r : Walk)
       → TriedLeads ts s (w .k) (counted x) (w .here .at) (there .at) r → TryLeads ts s w g r
   try-fine asked x e there passed r next = record {
+    looked = λ p. rw (next .kept p, ← fine-gate x e .is-result) passed;
+    starts = next .starts;
     leads = λ c o d left h is t.
         let v = fine-gate x e in
         next .leads c o d left (t .guessed)
@@ -436,7 +448,11 @@ module _ (ts s : List ℕ) (w : Walk) (g : Gate) (found : GateRead) (is-found : 
   }
 
   pub try-fault : (f : Refusal) → found ≡ GateRead.Fault f → (r : Walk) → Ended (Evaluated.Refused f) r → TryLeads ts s w g r
-  try-fault f e r is-r = record { leads = λ c o d left h is t. refuses c ts s o left r d f is-r (t .untouched) (verdict c o d left h is t) }
+  try-fault f e r is-r = record {
+    looked = λ p. absurd (omega (arith, is-r .over));
+    starts = λ _ p. absurd (omega (arith, is-r .over));
+    leads = λ c o d left h is t. refuses c ts s o left r d f is-r (t .untouched) (verdict c o d left h is t);
+  }
     where
       verdict : (c o d : List ℕ) (left : ℕ) → w .k < gates c → GateIs c (w .k) g → Tried c s o (suc left) (w .k) (w .z) (w .here .at) d
           → evaluateVerdict c ts s (length o) ≡ verdictOf f

@@ -11,7 +11,7 @@ use Rattle.model.specs.declared.Sizes.{Sizes}
 use Rattle.model.specs.declared.Evaluated.{Evaluated}
 use Rattle.model.specs.declared.Refusal.the-variants.{Limits}
 use Rattle.model.specs.Bytes.{tabulate, over}
-use Rattle.model.specs.Circuit.{circuitOf, inputs, outputs, gates, markAt, recordAt, gateAt, charges, sizesHold}
+use Rattle.model.specs.Circuit.{circuitOf, inputs, outputs, gates, markAt, recordAt, gateAt, kindOf, charge, charges, sizesHold}
 use Rattle.aes.specs.Tables.{IsTTables}
 use Rattle.model.specs.Aes.{keyExpansion, fixedKey}
 use Rattle.model.specs.Garbling.{schemeOf}
@@ -150,10 +150,15 @@ pub record Writes (t k s d : List ℕ) (w : Walk) (g : Gate) : Type 0 where
 
 -- ---- what they lead to, for every circuit and every number of turns left: no earlier pass, and where the walk stands then
 
+-- nor is a look at a row record lost: pass 0 goes on from there, and pass 1 starts at gate k if the records before it were right
 pub record TriedLeads (ts s : List ℕ) (k : ℕ) (z : Sizes) (here there : ℕ) (r : Walk) : Type 0 where
+  pub kept : r .pass ≡ 0 → r .here .at ≡ there
+  pub starts : (here ≡ 0 → ⊥) → r .pass ≡ 1 → r .k ≡ k
   pub leads : (c o d : List ℕ) (left : ℕ) → Guessed c s k here → Tried c s o left (k + 1) z there d → Stands c ts s o left r d
 
 pub record TryLeads (ts s : List ℕ) (w : Walk) (g : Gate) (r : Walk) : Type 0 where
+  pub looked : r .pass ≡ 0 → RowPassed s (w .here .at) (w .rows) (charge (kindOf (g .code))) (w .z .n + w .k + 1) (r .here .at)
+  pub starts : (w .here .at ≡ 0 → ⊥) → r .pass ≡ 1 → r .k ≡ w .k
   pub leads : (c o d : List ℕ) (left : ℕ) → w .k < gates c → GateIs c (w .k) g → Tried c s o (suc left) (w .k) (w .z) (w .here .at) d → Stands c ts s o left r d
 
 pub record CheckedLeads (ts s : List ℕ) (k : ℕ) (z : Sizes) (at : ℕ) (d : List ℕ) (r : Walk) (d′ : List ℕ) : Type 0 where
