@@ -2,8 +2,11 @@
 use crate::chained::chain_run;
 use crate::single::single_run;
 use aes::encrypt;
+use aes::encrypt_fast;
+use aes::encrypt_pair;
 use aes::expand_key;
 use aes::s_box;
+use aes::t_tables;
 use block::Block;
 use buffer::read16;
 use cases::answer::done_sizes;
@@ -22,11 +25,45 @@ fn block_of(field: &[u8]) -> Block {
     Block { bytes }
 }
 
-// Key, plaintext, ciphertext.
+// Key, plaintext, ciphertext: by the steps of a round.
 fn encryption(key: &[u8], plaintext: &[u8], ciphertext: &[u8]) -> bool {
     let t = s_box();
     let w = expand_key(&t, block_of(key));
     let c = encrypt(&t, &w, block_of(plaintext));
+    let bytes = c.bytes;
+    same(&bytes, ciphertext)
+}
+
+// The same by the tables.
+fn encryption_fast(key: &[u8], plaintext: &[u8], ciphertext: &[u8]) -> bool {
+    let t = s_box();
+    let m = t_tables();
+    let w = expand_key(&t, block_of(key));
+    let c = encrypt_fast(&m, &w, block_of(plaintext));
+    let bytes = c.bytes;
+    same(&bytes, ciphertext)
+}
+
+// The same as the first block of a pair. The other block is the key, so that it matters which of the two comes first.
+fn encryption_first(key: &[u8], plaintext: &[u8], ciphertext: &[u8]) -> bool {
+    let t = s_box();
+    let m = t_tables();
+    let k = block_of(key);
+    let w = expand_key(&t, k);
+    let p = encrypt_pair(&m, &w, block_of(plaintext), k);
+    let c = p.x;
+    let bytes = c.bytes;
+    same(&bytes, ciphertext)
+}
+
+// The same as the second block of a pair.
+fn encryption_second(key: &[u8], plaintext: &[u8], ciphertext: &[u8]) -> bool {
+    let t = s_box();
+    let m = t_tables();
+    let k = block_of(key);
+    let w = expand_key(&t, k);
+    let p = encrypt_pair(&m, &w, k, block_of(plaintext));
+    let c = p.y;
     let bytes = c.bytes;
     same(&bytes, ciphertext)
 }
@@ -99,7 +136,7 @@ pub fn pick_run<'a>(
 }
 
 // By group: 1 encryption, 2 key expansion, 3 doubling, 4 check, 5 plain, 7 encode, 8 pick, 10 evaluate,
-// 11 decode, 12 the chain, 13 evaluate's list form.
+// 11 decode, 12 the chain, 13 evaluate's list form, 14 encryption by tables, 15 and 16 as the first and the second block of a pair.
 pub fn agrees<'a>(
     group: u8,
     a: &'a [u8],
@@ -119,6 +156,9 @@ pub fn agrees<'a>(
         7 => single_run(group, a, b, c, d, e, f, g),
         8 => pick_run(a, b, c, d, e),
         12 => chain_run(a, b, c, d, e, f, g),
+        14 => encryption_fast(a, b, c),
+        15 => encryption_first(a, b, c),
+        16 => encryption_second(a, b, c),
         _ => single_run(group, a, b, c, d, d, e, f),
     }
 }

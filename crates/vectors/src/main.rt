@@ -4,6 +4,7 @@ use crate::text::run;
 use cases::file::print_tally;
 use cases::file::read_file;
 use cases::room;
+use libc::STDOUT_FILENO;
 
 mod agree;
 mod chained;
@@ -11,16 +12,25 @@ mod listed;
 mod single;
 mod text;
 
-// The cases of one file, in the form of its group (agree.rt).
-fn run_file(group: u8, path: &[u8]) {
+// The cases of one file, in the form of its group (agree.rt). What runs them is printed after the file's name.
+fn run_by(group: u8, path: &[u8], by: &[u8]) {
     let mut text = room::most(0);
     let len = read_file(path, &mut text);
+    io::write_all(STDOUT_FILENO, by);
     print_tally(run(group, &text[..len]));
 }
 
-// Outside vectors, and 01's examples.
+// The same, where one function alone runs the cases.
+fn run_file(group: u8, path: &[u8]) {
+    run_by(group, path, b"");
+}
+
+// Outside vectors, and 01's examples. What enciphers stands in more than one form, and each gets the vectors of FIPS 197.
 fn run_outside() {
-    run_file(1, b"fips197-encryption");
+    run_by(1, b"fips197-encryption", b" by encrypt");
+    run_by(14, b"fips197-encryption", b" by encrypt_fast");
+    run_by(15, b"fips197-encryption", b" by encrypt_pair, first block");
+    run_by(16, b"fips197-encryption", b" by encrypt_pair, second block");
     run_file(2, b"fips197-key-expansion");
     run_file(3, b"doubling");
     run_file(4, b"examples");
