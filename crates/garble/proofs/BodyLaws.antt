@@ -78,7 +78,7 @@ module _ (c seed : List ℕ) (scheme n r : ℕ) (R : Block) (w : List ℕ) (walk
   first-fits = omega (arith, is-n, is-q, limits .sizes .sum)
 
   -- ---- after the gates
-  module _ (m1 z1 : List ℕ) (done : GatesIs c seed scheme m z m1 z1) where
+  module _ (m1 z1 : List ℕ) (calls : ℕ) (done : GatesIs c seed scheme m z m1 z1 calls) where
     tokens : Blocks (inputs c + gates c) (zeroTokens (garblingOf c seed scheme))
     unfolding circuitOf
     tokens = rw tabulate-length at (zero-tokens-blocks (garblingOf c seed scheme))
@@ -131,7 +131,7 @@ module _ (c seed : List ℕ) (scheme n r : ℕ) (R : Block) (w : List ℕ) (walk
         ∙ rw is-m (sym (tabulate-map (λ k. colour (wire (block 0) (zeroTokens (garblingOf c seed scheme)) k)) (outputs c) (λ i. inputs c + gates c - outputs c + 1 + i))))
 
     pub body-done : (m2 : List ℕ) → m2 ≡ put m1 (9 + s .p * (4 + 16 * r)) (0x47 ∷ 0x44 ∷ tabulate (s .m) (λ i. colour (tokenAt z1 (s .n + s .q - s .m + 1 + i))))
-        → BodyIs c seed scheme m z m2 z1
+        → BodyIs c seed scheme m z m2 z1 calls
     unfolding so-far material
     body-done m2 e = record {
       zeros-left = done .zeros-left;
@@ -140,4 +140,5 @@ module _ (c seed : List ℕ) (scheme n r : ℕ) (R : Block) (w : List ℕ) (walk
           ∙ rw (last-is, done .material-left)
           (over-put so-far m (lastRecord (garblingOf c seed scheme)) (9 + s .p * (4 + 16 * r)) so-long
           (omega (arith, file-room, ap length (sym last-is), tabulate-length (s .m) (λ i. colour (tokenAt z1 (s .n + s .q - s .m + 1 + i))))));
+      calls-made = done .calls-made;
     }

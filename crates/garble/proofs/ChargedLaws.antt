@@ -1,7 +1,7 @@
 -- A charged gate in the buffers. Assumes nothing.
 use Prim.Native.Nat.{ℕ, _≤_}
 use native.Mathlib.Omega.{arith}
-use mathlib.Core.Path.{_≡_, refl, _∙_}
+use mathlib.Core.Path.{_≡_, refl, sym, _∙_}
 use mathlib.Core.List.{List}
 use mathlib.Core.Bool.{Bool, true, false, cond}
 use borrow.Author.Tests.{ne-eqb, eqb-true, eqb-false}
@@ -13,6 +13,8 @@ use Rattle.model.specs.Gax.{dualKey, valueAt, sealed, rowAt, gax}
 use Rattle.model.specs.Gaxr.{reducedZero, gaxr}
 use Rattle.model.specs.HalfGates.{hash, halfA, halfB, rowG, rowE, joined, halfZero, half}
 use Rattle.model.specs.Garbling.{schemeOf}
+use Rattle.model.specs.Calls.{garbleAsks}
+use Rattle.model.proofs.Calls.{garble-asks-four}
 use Rattle.scheme.specs.Garbled.{site, GarbledIs}
 use Rattle.scheme.specs.declared.Site.{Site}
 use Rattle.scheme.specs.declared.GarbledGate.{GarbledGate}
@@ -67,21 +69,22 @@ module _ (k : ℕ) (h : k ≡ 1 → ⊥) (f : Block) (s : Model.Site) where
 
 -- a gate garbled with what `fresh_block` gave is garbled as the site says
 module _ (w : List ℕ) (k g : ℕ) (f : Block) (R : Block) (code : ℕ) (xa xb : Block) (made : GarbledGate) (fresh : FreshIs w k g f)
-    (is : GarbledIs (schemeOf k) (refreshed f (siteAt w R g code xa xb)) made) where
-  of-gax : k ≡ 1 → GarbledIs (schemeOf k) (siteAt w R g code xa xb) made
+    (is : GarbledIs (schemeOf k) (garbleAsks k (refreshed f (siteAt w R g code xa xb))) (refreshed f (siteAt w R g code xa xb)) made) where
+  of-gax : k ≡ 1 → GarbledIs (schemeOf k) (garbleAsks k (siteAt w R g code xa xb)) (siteAt w R g code xa xb) made
   unfolding refreshed siteAt
   of-gax e = rw (fresh .if-gax e) at is
 
-  of-other : (k ≡ 1 → ⊥) → GarbledIs (schemeOf k) (siteAt w R g code xa xb) made
+  of-other : (k ≡ 1 → ⊥) → GarbledIs (schemeOf k) (garbleAsks k (siteAt w R g code xa xb)) (siteAt w R g code xa xb) made
   of-other h = record {
     is-zero = is .is-zero ∙ other-zero k h f (siteAt w R g code xa xb);
     is-rows = is .is-rows ∙ other-rows k h f (siteAt w R g code xa xb);
+    is-calls = is .is-calls ∙ garble-asks-four k (refreshed f (siteAt w R g code xa xb)) ∙ sym (garble-asks-four k (siteAt w R g code xa xb));
   }
 
-  gate-is : GarbledIs (schemeOf k) (siteAt w R g code xa xb) made
+  gate-is : GarbledIs (schemeOf k) (garbleAsks k (siteAt w R g code xa xb)) (siteAt w R g code xa xb) made
   gate-is = go (eqb k 1) refl
     where
-      go : (b : Bool) → eqb k 1 ≡ b → GarbledIs (schemeOf k) (siteAt w R g code xa xb) made
+      go : (b : Bool) → eqb k 1 ≡ b → GarbledIs (schemeOf k) (garbleAsks k (siteAt w R g code xa xb)) (siteAt w R g code xa xb) made
       go true e = of-gax (eqb-true k 1 e)
       go false e = of-other (eqb-false k 1 e)
 
@@ -103,14 +106,16 @@ module _ (scheme stored code u v x : ℕ) (m : List ℕ) (at : ℕ) (z : List �
       let l = rows-within scheme in
       record { low = omega (arith, start .is-stored, l .0); high = omega (arith, start .is-stored, l .1); room = start .record-room }
 
-  module _ (w : List ℕ) (st : Site) (fresh : FreshIs w scheme (st .g .0) (st .fresh .bytes)) (made : GarbledGate) (is : GarbledIs (schemeOf scheme) (site st) made)
+  module _ (w : List ℕ) (st : Site) (fresh : FreshIs w scheme (st .g .0) (st .fresh .bytes)) (made : GarbledGate) (is : GarbledIs (schemeOf scheme) (garbleAsks scheme (site st)) (site st) made)
       (m′ z′ : List ℕ) where
     pub charged-done : z′ ≡ put z slot (made .zero .bytes) → m′ ≡ put m at (recordBytes (st .g .0) stored made)
-        → ChargedIs scheme (siteAt w (st .r .bytes) (st .g .0) (st .code) (st .xa .bytes) (st .xb .bytes)) m at z slot m′ z′
+        → ChargedIs scheme (siteAt w (st .r .bytes) (st .g .0) (st .code) (st .xa .bytes) (st .xb .bytes)) m at z slot m′ z′ (made .calls)
     charged-done is-z is-m =
-        let h : GarbledIs (schemeOf scheme) (siteAt w (st .r .bytes) (st .g .0) (st .code) (st .xa .bytes) (st .xb .bytes)) made =
+        let σ : Model.Site = siteAt w (st .r .bytes) (st .g .0) (st .code) (st .xa .bytes) (st .xb .bytes) in
+        let h : GarbledIs (schemeOf scheme) (garbleAsks scheme σ) σ made =
         gate-is w scheme (st .g .0) (st .fresh .bytes) (st .r .bytes) (st .code) (st .xa .bytes) (st .xb .bytes) made fresh (unfold site refreshed siteAt in is) in
         record {
           zeros-left = rw (h .is-zero) at is-z;
           material-left = is-m ∙ unfold recordBytes siteAt in (rw (start .is-stored, h .is-rows));
+          calls-made = h .is-calls;
         }

@@ -1,21 +1,14 @@
 -- Garble: what the answer of `garble_ready` tells, and what garble answers and leaves. Assumes nothing.
-use Prim.Native.Nat.{ℕ, _*_, _≤_}
-use native.Mathlib.Nat.{mul-comm}
+use Prim.Native.Nat.{ℕ, _≤_}
 use native.Mathlib.Omega.{arith}
-use mathlib.Core.Path.{_≡_, refl, sym, ap, ap₂, _∙_}
+use mathlib.Core.Path.{_≡_, refl, ap, ap₂, _∙_}
 use mathlib.Core.List.{List}
-use mathlib.Core.Bool.{Bool, true, false, cond}
 use borrow.Author.Tests.{ltb-false, leb-true, eqb-true, not-false}
-use lib.Dec.{eqb}
 use lib.ListN.{length}
 use Rattle.model.specs.declared.Sizes.{Sizes}
 use Rattle.model.specs.declared.Refusal.{Refusal}
 use Rattle.model.specs.Circuit.{charges, circuitOf, outputs, gates, gateAt}
 use Rattle.model.specs.Bytes.{tabulate}
-use Rattle.model.specs.Gax.{dualKey, gax}
-use Rattle.model.specs.Gaxr.{gaxr}
-use Rattle.model.specs.HalfGates.{hash, half}
-use Rattle.model.specs.Garbling.{schemeOf}
 use Rattle.model.specs.Material.{materialLength}
 use Rattle.model.specs.Refusals.{fine, verdictOf, seedVerdict, schemeVerdict, roomVerdict}
 use Rattle.model.specs.Operations.{no, yes, sizesOf, garbleVerdict, made, garbleMade, GarbleIs}
@@ -23,21 +16,10 @@ use Rattle.model.proofs.Verdicts.{Given, yes-given, Turned, no-turned, then-fin
 use Rattle.model.proofs.Lists.{tabulate-length}
 use Rattle.model.proofs.Accepted.{accepted-header}
 use Rattle.model.proofs.Circuits.{charges-le}
-use Rattle.model.proofs.Calls.{calls-all}
 use Rattle.circuit.specs.Answers.{readyOf}
 use Rattle.circuit.specs.declared.values.Ready.{Ready}
 use Rattle.garble.specs.Answers.{Few, garbleReady}
 use Rattle.garble.specs.Whole.{WholeStart, WholeIs}
-
--- each scheme calls π four times at a charged gate
-four-calls : (k : ℕ) → schemeOf k .garbleCalls ≡ 4
-unfolding schemeOf gax gaxr half
-four-calls k = go (eqb k 1) (eqb k 2)
-  where
-    go : (a b : Bool) → cond a (gax dualKey) (cond b (gaxr dualKey) (half hash)) .garbleCalls ≡ 4
-    go true b = refl
-    go false true = refl
-    go false false = refl
 
 -- what it tells that nothing refuses
 pub garble-fine : (c seed : List ℕ) (scheme : ℕ) (m z o : List ℕ) → garbleVerdict c seed scheme (length m) (length z) (length o) ≡ fine
@@ -98,14 +80,13 @@ module _ (c seed : List ℕ) (scheme : ℕ) (m z o : List ℕ) (r : Ready) (is-r
         let h = accepted-header c (garble-go .accepted) in
         record { wires = rw (given .is-result) (h .sizes .sum); outputs = few-outputs; charged = few-charges }
 
-    pub garble-done : (l : ℕ) → l ≡ materialLength scheme (s .m) (s .p) → (m′ z′ o′ : List ℕ) → WholeIs c seed scheme m z o m′ z′ o′
-        → GarbleIs c seed scheme m z o (yes (made l (4 * s .p))) m′ z′ o′
+    pub garble-done : (l : ℕ) → l ≡ materialLength scheme (s .m) (s .p) → (m′ z′ o′ : List ℕ) (calls : ℕ) → WholeIs c seed scheme m z o m′ z′ o′ calls
+        → GarbleIs c seed scheme m z o (yes (made l calls)) m′ z′ o′
     unfolding garbleMade
-    garble-done l is-l m′ z′ o′ done = record {
+    garble-done l is-l m′ z′ o′ calls done = record {
       answered =
           rw (given .is-fine)
-          (ap₂ (λ (a b : ℕ). yes (made a b)) (is-l ∙ rw (is-m, is-p))
-          (mul-comm 4 (s .p) ∙ sym (calls-all (schemeOf scheme .garbleCalls) (circuitOf c .gates) ∙ ap₂ (λ (a b : ℕ). a * b) (sym is-p) (four-calls scheme))));
+          (ap₂ (λ (a b : ℕ). yes (made a b)) (is-l ∙ rw (is-m, is-p)) (done .calls-made));
       material-left = rw (given .is-fine) (done .material-left);
       zeros-left = rw (given .is-fine) (done .zeros-left);
       ones-left = rw (given .is-fine) (done .ones-left);

@@ -14,6 +14,7 @@ use Rattle.model.specs.Tokens.{Garbling, garblingOf, seedBlock, freeZero}
 use Rattle.model.specs.Garbling.{siteOf, zeroAt, zeroStep}
 use Rattle.model.specs.Material.{recordOf}
 use Rattle.model.specs.Evaluation.{tokenAt}
+use Rattle.model.specs.Calls.{garbleCallsAt}
 use Rattle.model.proofs.Lists.{tabulate-length}
 use Rattle.model.proofs.Circuits.{charges-le, charges-among}
 use Rattle.model.proofs.Buffers.{put-none}
@@ -127,13 +128,14 @@ module _ (c seed : List ℕ) (scheme n r : ℕ) (R : Block) (w : List ℕ) (walk
             slot-room = omega (arith, start .more, start .wires-room, walk .is-n);
           }
 
-          pub step-charged : (m′ z′ : List ℕ)
-              → ChargedIs scheme (siteAt w R (g .own .0) (g .code) (g .xa .bytes) (g .xb .bytes)) m at z (16 * (n + k)) m′ z′
-              → StepIs c seed scheme r k at m z (at + 4 + 16 * r) m′ z′
-          step-charged m′ z′ done = record {
+          pub step-charged : (m′ z′ : List ℕ) (calls : ℕ)
+              → ChargedIs scheme (siteAt w R (g .own .0) (g .code) (g .xa .bytes) (g .xb .bytes)) m at z (16 * (n + k)) m′ z′ calls
+              → StepIs c seed scheme r k at m z (at + 4 + 16 * r) calls m′ z′
+          step-charged m′ z′ calls done = record {
             zeros-left = done .zeros-left ∙ rw (walk .is-n, site-is) (unfold zeroStep zeroAt in (rw charged-is));
             material-left = done .material-left ∙ rw site-is (unfold recordOf in (rw charged-is));
             is-next = rw (charged-is, one-mul) (omega arith);
+            calls-made = done .calls-made ∙ rw site-is (unfold garbleCallsAt in (rw charged-is));
           }
 
         -- ---- a free gate
@@ -153,13 +155,14 @@ module _ (c seed : List ℕ) (scheme n r : ℕ) (R : Block) (w : List ℕ) (walk
           pub step-slot : 16 * (n + k) + 16 ≤ length z
           step-slot = omega (arith, start .more, start .wires-room, walk .is-n)
 
-          pub step-free : (x z′ : List ℕ) → x ≡ freeZero p q d R (g .xa .bytes) (g .xb .bytes) → z′ ≡ put z (16 * (n + k)) x → StepIs c seed scheme r k at m z at m z′
+          pub step-free : (x z′ : List ℕ) → x ≡ freeZero p q d R (g .xa .bytes) (g .xb .bytes) → z′ ≡ put z (16 * (n + k)) x → StepIs c seed scheme r k at m z at 0 m z′
           step-free x z′ is-x is-z = record {
             zeros-left = is-z ∙ rw (walk .is-n, is-x) (unfold zeroStep zeroAt siteOf in (rw (free-is, walk .is-offset, xa-is, xb-is)));
             material-left = put-none m at ∙ unfold recordOf in (rw free-is);
             is-next = rw (free-is, zero-mul) (sym (add-zero at));
+            calls-made = unfold garbleCallsAt in (rw free-is);
           }
 
         -- ---- no other gate is accepted
-        pub step-refused : kind ≡ Kinds.Kind.Refused → StepIs c seed scheme r k at m z at m z
+        pub step-refused : kind ≡ Kinds.Kind.Refused → StepIs c seed scheme r k at m z at 0 m z
         step-refused e = absurd (not-refused _ (holds .used) (code-kind ∙ ap meaning e))

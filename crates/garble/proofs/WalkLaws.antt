@@ -3,22 +3,27 @@ use Prim.Native.Nat.{ℕ, _+_, _*_, _≤_, _<_}
 use native.Mathlib.Numerals.{add-one}
 use native.Mathlib.Nat.{add-mul, mul-le-mul-right}
 use native.Mathlib.Omega.{arith}
-use mathlib.Core.Path.{_≡_, refl, sym, ap, _∙_}
+use mathlib.Core.Path.{_≡_, refl, sym, ap, ap₂, _∙_}
 use mathlib.Core.List.{List, _++_, append-assoc, append-nil}
 use lib.ListN.{length, take, drop, length-append, take-append-drop}
 use lib.Seq.{take-at}
+use mir.Syntax.{w64}
+use mir.Val.{Fits}
 use Rattle.model.specs.Bytes.{tabulate, over}
 use Rattle.model.specs.Circuit.{kindOf, charge, charges, circuitOf, inputs, gates, gateAt, wires}
 use Rattle.model.specs.Aes.{Block}
 use Rattle.model.specs.Tokens.{garblingOf, inputZeros}
 use Rattle.model.specs.Garbling.{siteOf, zeroStep, zeroTokens}
 use Rattle.model.specs.Material.{joinBlocks, header, recordOf, records}
-use Rattle.model.proofs.Lists.{tabulate-snoc}
-use Rattle.model.proofs.Circuits.{charges-snoc, charges-among, wires-snoc}
+use Rattle.model.specs.Calls.{garbleCalls}
+use Rattle.model.proofs.Lists.{tabulate-snoc, tabulate-length}
+use Rattle.model.proofs.Circuits.{charge-le, charges-le, charges-snoc, charges-among, wires-snoc}
 use Rattle.model.proofs.Buffers.{over-put, put-length}
 use Rattle.model.proofs.Blocks.{join-length}
 use Rattle.model.proofs.Lengths.{input-zeros-blocks, zero-step-wide, header-length, record-length, records-length}
 use Rattle.model.proofs.OneMore.{records-snoc}
+use Rattle.model.proofs.Calls.{garble-calls-at, garble-calls-all, garble-calls-snoc}
+use Rattle.model.proofs.Accepted.{accepted-header}
 use Rattle.garble.specs.Walk.{zerosTo, WalkOf, StepStart, StepIs, GatesStart, GatesIs}
 use Rattle.garble.proofs.BlockLaws.{over-block}
 use Rattle.garble.proofs.StepLaws.{zeros-many}
@@ -27,14 +32,15 @@ use Rattle.garble.proofs.StepLaws.{zeros-many}
 recordsTo : List ℕ → List ℕ → ℕ → ℕ → List ℕ
 recordsTo c seed scheme k = records (garblingOf c seed scheme) (tabulate k (gateAt c)) (inputZeros (garblingOf c seed scheme))
 
--- k gates are done: m and z were m₀ and z₀ at the start
-pub record Walking (c seed : List ℕ) (scheme r q : ℕ) (m₀ z₀ : List ℕ) (k at : ℕ) (m z : List ℕ) : Type 0 where
+-- k gates are done, by so many calls of π: m and z were m₀ and z₀ at the start
+pub record Walking (c seed : List ℕ) (scheme r q : ℕ) (m₀ z₀ : List ℕ) (k at calls : ℕ) (m z : List ℕ) : Type 0 where
   pub within : k ≤ q
   pub is-at : at ≡ 9 + charges (tabulate k (gateAt c)) * (4 + 16 * r)
   pub material-length : length m ≡ length m₀
   pub zeros-length : length z ≡ length z₀
   material : m ≡ over (header (garblingOf c seed scheme) ++ recordsTo c seed scheme k) m₀
   zeros : z ≡ over (joinBlocks (zerosTo c seed scheme k)) z₀
+  counted : calls ≡ garbleCalls (garblingOf c seed scheme) (tabulate k (gateAt c)) (inputZeros (garblingOf c seed scheme))
 
 module _ (c seed : List ℕ) (scheme n r : ℕ) (R : Block) (w : List ℕ) (walk : WalkOf c seed scheme n r R w)
     (q : ℕ) (m₀ z₀ : List ℕ) (start : GatesStart c seed scheme r q m₀ z₀) where
@@ -43,8 +49,8 @@ module _ (c seed : List ℕ) (scheme n r : ℕ) (R : Block) (w : List ℕ) (walk
   unfolding over
   front p o k l e = rw l (sym (ap (λ (x : List ℕ). x ++ drop k o) (sym e) ∙ take-append-drop k o))
 
-  pub walk-start : Walking c seed scheme r q m₀ z₀ 0 9 m₀ z₀
-  unfolding recordsTo records zerosTo wires charges circuitOf
+  pub walk-start : Walking c seed scheme r q m₀ z₀ 0 9 0 m₀ z₀
+  unfolding recordsTo records zerosTo wires charges circuitOf garbleCalls
   walk-start = record {
     within = omega arith;
     is-at = omega arith;
@@ -54,14 +60,15 @@ module _ (c seed : List ℕ) (scheme n r : ℕ) (R : Block) (w : List ℕ) (walk
     zeros =
         front (joinBlocks (inputZeros (garblingOf c seed scheme))) z₀ (16 * inputs c)
         (join-length (input-zeros-blocks (garblingOf c seed scheme))) (start .inputs-front);
+    counted = refl;
   }
 
-  module _ (k at : ℕ) (m z : List ℕ) (inv : Walking c seed scheme r q m₀ z₀ k at m z) where
-    pub walk-end : q ≤ k → GatesIs c seed scheme m₀ z₀ m z
+  module _ (k at calls : ℕ) (m z : List ℕ) (inv : Walking c seed scheme r q m₀ z₀ k at calls m z) where
+    pub walk-end : q ≤ k → GatesIs c seed scheme m₀ z₀ m z calls
     unfolding recordsTo zerosTo zeroTokens circuitOf
     walk-end h =
         let e : k ≡ gates c = omega (arith, inv .within, start .is-q) in
-        record { zeros-left = inv .zeros ∙ rw e; material-left = inv .material ∙ rw e }
+        record { zeros-left = inv .zeros ∙ rw e; material-left = inv .material ∙ rw e; calls-made = inv .counted ∙ rw e }
 
     module _ (more : k < q) where
       -- the bytes of the material so far
@@ -92,7 +99,24 @@ module _ (c seed : List ℕ) (scheme n r : ℕ) (R : Block) (w : List ℕ) (walk
           let l : (p + d) * (4 + 16 * r) ≤ charges (tabulate (gates c) (gateAt c)) * (4 + 16 * r) = mul-le-mul-right (4 + 16 * r) (charges-among (gateAt c) k (gates c) below) in
           omega (arith, l, add-mul p d (4 + 16 * r), inv .is-at, start .file-room)
 
-      module _ (next : ℕ) (m′ z′ : List ℕ) (done : StepIs c seed scheme r k at m z next m′ z′) where
+      module _ (next made : ℕ) (m′ z′ : List ℕ) (done : StepIs c seed scheme r k at m z next made m′ z′) where
+        -- no count overflows
+        pub walk-calls : Fits w64 (calls + made)
+        walk-calls =
+            let gs = tabulate k (gateAt c) in
+            omega (
+              arith,
+              inv .counted,
+              garble-calls-all (garblingOf c seed scheme) gs (inputZeros (garblingOf c seed scheme)),
+              charges-le gs,
+              tabulate-length k (gateAt c),
+              below,
+              accepted-header c (walk .accepted) .sizes .sum,
+              done .calls-made,
+              garble-calls-at (garblingOf c seed scheme) (kindOf (gateAt c k .code)) (siteOf (garblingOf c seed scheme) (zerosTo c seed scheme k) (gateAt c k)),
+              charge-le (kindOf (gateAt c k .code)),
+            )
+
         piece : List ℕ
         piece = recordOf (garblingOf c seed scheme) (kindOf (gateAt c k .code)) (siteOf (garblingOf c seed scheme) (zerosTo c seed scheme k) (gateAt c k))
 
@@ -122,7 +146,13 @@ module _ (c seed : List ℕ) (scheme n r : ℕ) (R : Block) (w : List ℕ) (walk
             ∙ rw (inv .zeros, add-one, tabulate-snoc k (gateAt c), wires-snoc (zeroStep (garblingOf c seed scheme)) (tabulate k (gateAt c)) (gateAt c k) (inputZeros (garblingOf c seed scheme)))
             (over-block (zeros-many c seed scheme n r R w walk k) token z₀ token-wide (omega (arith, below, start .wires-room)))
 
-        pub walk-turn : Walking c seed scheme r q m₀ z₀ (k + 1) next m′ z′
+        counted-next : calls + made ≡ garbleCalls (garblingOf c seed scheme) (tabulate (k + 1) (gateAt c)) (inputZeros (garblingOf c seed scheme))
+        unfolding zerosTo
+        counted-next =
+            rw (add-one, tabulate-snoc k (gateAt c), garble-calls-snoc (garblingOf c seed scheme) (tabulate k (gateAt c)) (gateAt c k) (inputZeros (garblingOf c seed scheme)))
+            (ap₂ (λ (x y : ℕ). x + y) (inv .counted) (done .calls-made))
+
+        pub walk-turn : Walking c seed scheme r q m₀ z₀ (k + 1) next (calls + made) m′ z′
         unfolding piece token
         walk-turn = record {
           within = omega arith;
@@ -135,4 +165,5 @@ module _ (c seed : List ℕ) (scheme n r : ℕ) (R : Block) (w : List ℕ) (walk
               ap length (done .zeros-left) ∙ put-length z (16 * (inputs c + k)) token (omega (arith, token-wide, below, start .wires-room, inv .zeros-length)) ∙ inv .zeros-length;
           material = material-next;
           zeros = zeros-next;
+          counted = counted-next;
         }

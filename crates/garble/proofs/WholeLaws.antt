@@ -110,7 +110,7 @@ module _ (c seed : List ℕ) (scheme : ℕ) (s : Sizes) (m z o : List ℕ) (star
       }
 
       -- the body as it was written
-      module _ (m2 z2 : List ℕ) (body : BodyIs c seed scheme m1 z1 m2 z2) where
+      module _ (m2 z2 : List ℕ) (calls : ℕ) (body : BodyIs c seed scheme m1 z1 m2 z2 calls) where
         material-long : length (material (garblingOf c seed scheme)) ≡ materialLength scheme (outputs c) (charges (circuitOf c .gates))
         unfolding circuitOf lastWires
         material-long = rw tabulate-length at (material-length (garblingOf c seed scheme) (start .scheme-low) (start .scheme-high))
@@ -123,7 +123,7 @@ module _ (c seed : List ℕ) (scheme : ℕ) (s : Sizes) (m z o : List ℕ) (star
         unfolding circuitOf
         zeros-long = join-length (rw tabulate-length at (zero-tokens-blocks (garblingOf c seed scheme)))
 
-        pub whole-done : WholeIs c seed scheme m z o m2 z2 o1
+        pub whole-done : WholeIs c seed scheme m z o m2 z2 o1 calls
         whole-done = record {
           material-left =
               body .material-left
@@ -134,4 +134,5 @@ module _ (c seed : List ℕ) (scheme : ℕ) (s : Sizes) (m z o : List ℕ) (star
               ∙ rw zeros-are
               (over-over (joinBlocks (zeroTokens (garblingOf c seed scheme))) z (joinBlocks (inputZeros (garblingOf c seed scheme))) (omega (arith, inputs-long, zeros-long)) (omega (arith, zeros-long, start .wires-room)));
           ones-left = ones-are;
+          calls-made = body .calls-made;
         }

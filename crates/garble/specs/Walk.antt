@@ -12,6 +12,7 @@ use Rattle.model.specs.Scheme.{Site}
 use Rattle.model.specs.Garbling.{schemeOf, siteOf, zeroStep, zeroTokens}
 use Rattle.model.specs.Material.{joinBlocks, header, recordOf, records, material}
 use Rattle.model.specs.Evaluation.{tokenAt}
+use Rattle.model.specs.Calls.{garbleAsks, garbleCallsAt, garbleCalls}
 use Rattle.model.specs.Refusals.{fine, circuitVerdict}
 use Rattle.model.specs.Operations.{sizesOf}
 use Rattle.garble.specs.Written.{InputsIs}
@@ -50,10 +51,11 @@ pub record ChargedStart (scheme stored code u v x : ℕ) (m : List ℕ) (at : �
   pub record-room : at + 4 + 16 * stored ≤ length m
   pub slot-room : slot + 16 ≤ length z
 
--- what it leaves
-pub record ChargedIs (scheme : ℕ) (s : Site) (m : List ℕ) (at : ℕ) (z : List ℕ) (slot : ℕ) (m′ z′ : List ℕ) : Type 0 where
+-- what it leaves, and the calls of π made
+pub record ChargedIs (scheme : ℕ) (s : Site) (m : List ℕ) (at : ℕ) (z : List ℕ) (slot : ℕ) (m′ z′ : List ℕ) (calls : ℕ) : Type 0 where
   pub zeros-left : z′ ≡ put z slot (schemeOf scheme .zeroToken s)
   pub material-left : m′ ≡ put m at (0x47 ∷ 0x54 ∷ two (s .g) ++ joinBlocks (schemeOf scheme .rows s))
+  pub calls-made : calls ≡ length (garbleAsks scheme s)
 
 -- the garbling that the walk is of: n inputs, r rows for a charged gate, the offset R, and the schedule w of the seed
 pub record WalkOf (c seed : List ℕ) (scheme n r : ℕ) (R : Block) (w : List ℕ) : Type 0 where
@@ -87,11 +89,12 @@ pub record StepStart (c seed : List ℕ) (scheme r k at : ℕ) (m z : List ℕ) 
   pub wires-room : 16 * (inputs c + gates c) ≤ length z
   pub so-far : take (16 * (inputs c + k)) z ≡ joinBlocks (zerosTo c seed scheme k)
 
--- what gate k leaves: m′ and z′ at exit, and the place of the next record
-pub record StepIs (c seed : List ℕ) (scheme r k at : ℕ) (m z : List ℕ) (next : ℕ) (m′ z′ : List ℕ) : Type 0 where
+-- what gate k leaves: m′ and z′ at exit, the place of the next record, and the calls of π made
+pub record StepIs (c seed : List ℕ) (scheme r k at : ℕ) (m z : List ℕ) (next calls : ℕ) (m′ z′ : List ℕ) : Type 0 where
   pub zeros-left : z′ ≡ put z (16 * (inputs c + k)) (zeroStep (garblingOf c seed scheme) (zerosTo c seed scheme k) (gateAt c k))
   pub material-left : m′ ≡ put m at (recordOf (garblingOf c seed scheme) (kindOf (gateAt c k .code)) (siteOf (garblingOf c seed scheme) (zerosTo c seed scheme k) (gateAt c k)))
   pub is-next : next ≡ at + charge (kindOf (gateAt c k .code)) * (4 + 16 * r)
+  pub calls-made : calls ≡ garbleCallsAt (garblingOf c seed scheme) (kindOf (gateAt c k .code)) (siteOf (garblingOf c seed scheme) (zerosTo c seed scheme k) (gateAt c k))
 
 -- before the first gate: the header and the inputs' zero tokens stand at the front of m and z
 pub record GatesStart (c seed : List ℕ) (scheme r q : ℕ) (m z : List ℕ) : Type 0 where
@@ -102,9 +105,10 @@ pub record GatesStart (c seed : List ℕ) (scheme r q : ℕ) (m z : List ℕ) : 
   pub inputs-front : take (16 * inputs c) z ≡ joinBlocks (inputZeros (garblingOf c seed scheme))
 
 -- after the last: the records follow the header, and the gates' zero tokens the inputs'
-pub record GatesIs (c seed : List ℕ) (scheme : ℕ) (m z m′ z′ : List ℕ) : Type 0 where
+pub record GatesIs (c seed : List ℕ) (scheme : ℕ) (m z m′ z′ : List ℕ) (calls : ℕ) : Type 0 where
   pub zeros-left : z′ ≡ over (joinBlocks (zeroTokens (garblingOf c seed scheme))) z
   pub material-left : m′ ≡ over (header (garblingOf c seed scheme) ++ records (garblingOf c seed scheme) (circuitOf c .gates) (inputZeros (garblingOf c seed scheme))) m
+  pub calls-made : calls ≡ garbleCalls (garblingOf c seed scheme) (circuitOf c .gates) (inputZeros (garblingOf c seed scheme))
 
 -- ---- the last record
 
@@ -137,6 +141,7 @@ pub record BodyStart (c seed : List ℕ) (scheme r : ℕ) (s : Sizes) (m z : Lis
   pub sizes : s ≡ sizesOf c
   pub gates-start : GatesStart c seed scheme r (s .q) m z
 
-pub record BodyIs (c seed : List ℕ) (scheme : ℕ) (m z m′ z′ : List ℕ) : Type 0 where
+pub record BodyIs (c seed : List ℕ) (scheme : ℕ) (m z m′ z′ : List ℕ) (calls : ℕ) : Type 0 where
   pub zeros-left : z′ ≡ over (joinBlocks (zeroTokens (garblingOf c seed scheme))) z
   pub material-left : m′ ≡ over (material (garblingOf c seed scheme)) m
+  pub calls-made : calls ≡ garbleCalls (garblingOf c seed scheme) (circuitOf c .gates) (inputZeros (garblingOf c seed scheme))

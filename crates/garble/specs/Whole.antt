@@ -6,9 +6,10 @@ use lib.ListN.{length}
 use Rattle.model.specs.declared.Sizes.{Sizes}
 use Rattle.model.specs.Bytes.{over}
 use Rattle.model.specs.Circuit.{charges, circuitOf, inputs, outputs, gates}
-use Rattle.model.specs.Tokens.{garblingOf}
+use Rattle.model.specs.Tokens.{garblingOf, inputZeros}
 use Rattle.model.specs.Garbling.{zeroTokens, inputOnes}
 use Rattle.model.specs.Material.{joinBlocks, materialLength, material}
+use Rattle.model.specs.Calls.{garbleCalls}
 use Rattle.model.specs.Refusals.{fine, circuitVerdict}
 use Rattle.model.specs.Operations.{sizesOf}
 
@@ -23,7 +24,8 @@ pub record WholeStart (c seed : List ℕ) (scheme : ℕ) (s : Sizes) (m z o : Li
   pub wires-room : 16 * (inputs c + gates c) ≤ length z
   pub inputs-room : 16 * inputs c ≤ length o
 
-pub record WholeIs (c seed : List ℕ) (scheme : ℕ) (m z o m′ z′ o′ : List ℕ) : Type 0 where
+pub record WholeIs (c seed : List ℕ) (scheme : ℕ) (m z o m′ z′ o′ : List ℕ) (calls : ℕ) : Type 0 where
   pub material-left : m′ ≡ over (material (garblingOf c seed scheme)) m
   pub zeros-left : z′ ≡ over (joinBlocks (zeroTokens (garblingOf c seed scheme))) z
   pub ones-left : o′ ≡ over (joinBlocks (inputOnes (garblingOf c seed scheme))) o
+  pub calls-made : calls ≡ garbleCalls (garblingOf c seed scheme) (circuitOf c .gates) (inputZeros (garblingOf c seed scheme))

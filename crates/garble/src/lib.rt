@@ -44,10 +44,10 @@ pub fn garble(
     ) {
         Ready::Refused(f) => Garbled::Refused(f),
         Ready::Go(z) => {
-            garble_whole(circuit, seed, scheme, z, material, zeros, ones);
+            let calls = garble_whole(circuit, seed, scheme, z, material, zeros, ones);
             Garbled::Done {
                 length: material_length(scheme, z.m, z.p),
-                calls: 4 * z.p,
+                calls,
             }
         }
     }

@@ -86,7 +86,7 @@ pub struct GateIn {
     pub xb: Block,
 }
 
-// A charged gate: its zero token goes to a slot of the zeros, its record to a place in the material.
+// A charged gate: its zero token goes to a slot of the zeros, its record to a place in the material. Answers the calls of π made.
 pub fn garble_charged(
     m: &[u32; 1024],
     w: &[u8; 176],
@@ -100,11 +100,11 @@ pub fn garble_charged(
     at: usize,
     zeros: &mut [u8],
     slot: usize,
-)
+) -> usize
     requires { ⌜ IsTTables (now m) ⌝ }
     requires { ⌜ now w ≡ keyExpansion fixedKey ⌝ }
     requires { ⌜ ChargedStart (plan .scheme) (plan .stored) (g .code) (u .0) (v .0) (own .0) (now material) at (now zeros) slot ⌝ }
-    ensures { λ _. ⌜ ChargedIs (plan .scheme) (siteAt (now (ws .entry)) (plan .r .bytes) (g .own .0) (g .code) (g .xa .bytes) (g .xb .bytes)) (now (material .entry)) at (now (zeros .entry)) slot (now (material .exit)) (now (zeros .exit)) ⌝ }
+    ensures { λ r. ⌜ ChargedIs (plan .scheme) (siteAt (now (ws .entry)) (plan .r .bytes) (g .own .0) (g .code) (g .xa .bytes) (g .xb .bytes)) (now (material .entry)) at (now (zeros .entry)) slot (now (material .exit)) (now (zeros .exit)) r ⌝ }
 {
     let scheme = plan.scheme;
     let wire = g.own;
@@ -123,4 +123,5 @@ pub fn garble_charged(
     let made = garble_gate(m, w, scheme, site, u, v, own);
     store(zeros, slot, made.zero);
     write_record(material, at, wire, plan.stored, made);
+    made.calls
 }

@@ -32,7 +32,13 @@ fn read_operands(circuit: &[u8], n: usize, k: usize, zeros: &[u8]) -> GateIn
     }
 }
 
-// One gate: what it adds to the zeros and to the material, at a place; answers the place of the next record.
+// What a gate comes to: the place of the next record, and the calls of π that were made for it.
+pub struct Stepped {
+    pub at: usize,
+    pub calls: usize,
+}
+
+// One gate: what it adds to the zeros and to the material, at a place. A free gate calls π not at all.
 // The seed is lent for the contract alone: ws is its schedule.
 pub fn garble_step(
     m: &[u32; 1024],
@@ -45,30 +51,31 @@ pub fn garble_step(
     material: &mut [u8],
     at: usize,
     zeros: &mut [u8],
-) -> usize
+) -> Stepped
     requires { ⌜ IsTTables (now m) ⌝ }
     requires { ⌜ now w ≡ keyExpansion fixedKey ⌝ }
     requires { ⌜ WalkOf (now circuit) (now seed) (plan .scheme) (plan .n) (plan .stored) (plan .r .bytes) (now ws) ⌝ }
     requires { ⌜ StepStart (now circuit) (now seed) (plan .scheme) (plan .stored) k at (now material) (now zeros) ⌝ }
-    ensures { λ r. ⌜ StepIs (now (circuit .entry)) (now (seed .entry)) (plan .scheme) (plan .stored) k at (now (material .entry)) (now (zeros .entry)) r (now (material .exit)) (now (zeros .exit)) ⌝ }
+    ensures { λ r. ⌜ StepIs (now (circuit .entry)) (now (seed .entry)) (plan .scheme) (plan .stored) k at (now (material .entry)) (now (zeros .entry)) (r .at) (r .calls) (now (material .exit)) (now (zeros .exit)) ⌝ }
 {
     let n = plan.n;
     let g = read_operands(circuit, n, k, zeros);
     let slot = 16 * (n + k);
     match code_kind_by_bits(g.code) {
         Kind::Charged(u, v, own) => {
-            garble_charged(m, w, ws, plan, g, u, v, own, material, at, zeros, slot);
-            at + 4 + 16 * plan.stored
+            let calls = garble_charged(m, w, ws, plan, g, u, v, own, material, at, zeros, slot);
+            let at = at + 4 + 16 * plan.stored;
+            Stepped { at, calls }
         }
         Kind::Free { p, q, c } => {
             store(zeros, slot, free_zero(p, q, c, plan.r, g.xa, g.xb));
-            at
+            Stepped { at, calls: 0 }
         }
-        Kind::Refused => at,
+        Kind::Refused => Stepped { at, calls: 0 },
     }
 }
 
-// All gates, after the inputs' zero tokens and the material's header.
+// All gates, after the inputs' zero tokens and the material's header. Answers the calls of π made, added up gate by gate.
 pub fn garble_gates(
     m: &[u32; 1024],
     w: &[u8; 176],
@@ -79,17 +86,21 @@ pub fn garble_gates(
     q: usize,
     material: &mut [u8],
     zeros: &mut [u8],
-)
+) -> usize
     requires { ⌜ IsTTables (now m) ⌝ }
     requires { ⌜ now w ≡ keyExpansion fixedKey ⌝ }
     requires { ⌜ WalkOf (now circuit) (now seed) (plan .scheme) (plan .n) (plan .stored) (plan .r .bytes) (now ws) ⌝ }
     requires { ⌜ GatesStart (now circuit) (now seed) (plan .scheme) (plan .stored) q (now material) (now zeros) ⌝ }
-    ensures { λ _. ⌜ GatesIs (now (circuit .entry)) (now (seed .entry)) (plan .scheme) (now (material .entry)) (now (zeros .entry)) (now (material .exit)) (now (zeros .exit)) ⌝ }
+    ensures { λ r. ⌜ GatesIs (now (circuit .entry)) (now (seed .entry)) (plan .scheme) (now (material .entry)) (now (zeros .entry)) (now (material .exit)) (now (zeros .exit)) r ⌝ }
 {
     let mut k: usize = 0;
     let mut at: usize = 9;
+    let mut calls: usize = 0;
     while k < q {
-        at = garble_step(m, w, ws, seed, plan, circuit, k, material, at, zeros);
+        let step = garble_step(m, w, ws, seed, plan, circuit, k, material, at, zeros);
+        at = step.at;
+        calls += step.calls;
         k += 1;
     }
+    calls
 }

@@ -38,7 +38,7 @@ fn garble_front(
     write_header(material, scheme, z.n, z.m, z.q);
 }
 
-// The gates, and the last record after theirs.
+// The gates, and the last record after theirs. Answers the calls of π made.
 fn garble_body(
     m: &[u32; 1024],
     w: &[u8; 176],
@@ -49,19 +49,21 @@ fn garble_body(
     z: Sizes,
     material: &mut [u8],
     zeros: &mut [u8],
-)
+) -> usize
     requires { ⌜ IsTTables (now m) ⌝ }
     requires { ⌜ now w ≡ keyExpansion fixedKey ⌝ }
     requires { ⌜ WalkOf (now circuit) (now seed) (plan .scheme) (plan .n) (plan .stored) (plan .r .bytes) (now ws) ⌝ }
     requires { ⌜ BodyStart (now circuit) (now seed) (plan .scheme) (plan .stored) z (now material) (now zeros) ⌝ }
-    ensures { λ _. ⌜ BodyIs (now (circuit .entry)) (now (seed .entry)) (plan .scheme) (now (material .entry)) (now (zeros .entry)) (now (material .exit)) (now (zeros .exit)) ⌝ }
+    ensures { λ r. ⌜ BodyIs (now (circuit .entry)) (now (seed .entry)) (plan .scheme) (now (material .entry)) (now (zeros .entry)) (now (material .exit)) (now (zeros .exit)) r ⌝ }
 {
-    garble_gates(m, w, ws, seed, plan, circuit, z.q, material, zeros);
+    let calls = garble_gates(m, w, ws, seed, plan, circuit, z.q, material, zeros);
     let at = 9 + z.p * (4 + 16 * plan.stored);
     write_last(zeros, z.n + z.q - z.m + 1, z.m, material, at);
+    calls
 }
 
 // The garbling of an accepted circuit. The constants are named here, once, and lent down; so is the seed's schedule.
+// Answers the calls of π made.
 pub fn garble_whole(
     circuit: &[u8],
     seed: &[u8],
@@ -70,9 +72,9 @@ pub fn garble_whole(
     material: &mut [u8],
     zeros: &mut [u8],
     ones: &mut [u8],
-)
+) -> usize
     requires { ⌜ WholeStart (now circuit) (now seed) scheme z (now material) (now zeros) (now ones) ⌝ }
-    ensures { λ _. ⌜ WholeIs (now (circuit .entry)) (now (seed .entry)) scheme (now (material .entry)) (now (zeros .entry)) (now (ones .entry)) (now (material .exit)) (now (zeros .exit)) (now (ones .exit)) ⌝ }
+    ensures { λ r. ⌜ WholeIs (now (circuit .entry)) (now (seed .entry)) scheme (now (material .entry)) (now (zeros .entry)) (now (ones .entry)) (now (material .exit)) (now (zeros .exit)) (now (ones .exit)) r ⌝ }
 {
     let t = s_box();
     let m = t_tables();
@@ -88,5 +90,5 @@ pub fn garble_whole(
         n,
         r,
     };
-    garble_body(&m, &w, &ws, seed, plan, circuit, z, material, zeros);
+    garble_body(&m, &w, &ws, seed, plan, circuit, z, material, zeros)
 }

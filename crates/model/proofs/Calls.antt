@@ -1,13 +1,302 @@
--- The calls of π: k for each charged gate is k times p. Assumes nothing.
-use Prim.Native.Nat.{ℕ, _+_, _*_}
-use native.Mathlib.Nat.{zero-mul, add-mul}
-use mathlib.Core.Path.{_≡_, sym, ap, _∙_}
-use mathlib.Core.List.{List, [], _∷_}
+-- The calls of π: how many they are, that none is missing from a gate's list, and that none is listed twice. Assumes nothing.
+use Prim.Native.Nat.{ℕ, _+_, _*_, _≤_}
+use native.Mathlib.Nat.{add-mul, mul-comm}
+use native.Mathlib.Omega.{arith}
+use mathlib.Core.Path.{_≡_, refl, sym, ap, ap₂, _∙_}
+use mathlib.Core.Bool.{Bool, true, false, cond}
+use mathlib.Core.List.{List, [], _∷_, _++_, List·Memᴰ, List·Memᴰ·head, List·Memᴰ·tail}
+use lib.Dec.{eqb}
+use lib.Bits.{differ}
+use lib.ListN.{length}
 use Rattle.model.specs.declared.Gate.{Gate}
-use Rattle.model.specs.Circuit.{kindOf, charge, charges}
-use Rattle.model.specs.Operations.{calls}
+use Rattle.model.specs.Circuit.{Kind, charged, free, refused, kindOf, charge, charges, circuitOf, outputs, wire, wires}
+use Rattle.model.specs.Aes.{Block, _⊕_, block}
+use Rattle.model.specs.Tokens.{Garbling, colour, garblingOf, inputZeros}
+use Rattle.model.specs.Scheme.{Site, Scheme}
+use Rattle.model.specs.Gax.{tokenOf, sealed, rowAt, openRow, gax}
+use Rattle.model.specs.Gaxr.{reducedZero, gaxr}
+use Rattle.model.specs.HalfGates.{halfA, halfB, rowG, rowE, joined, halfZero, half}
+use Rattle.model.specs.Garbling.{schemeOf, own, siteOf, zeroStep}
+use Rattle.model.specs.Material.{materialLength}
+use Rattle.model.specs.Evaluation.{openStep, past, run}
+use Rattle.model.specs.Calls.{Call, sealing, hashing, sealingAt, sealings, hashings, garbleAsks, sealingHeld, hashingsHeld, evaluateAsks, garbleCallsAt, garbleCalls, evaluateCallsAt, evaluateCalls}
+use Rattle.model.specs.Operations.{made, garbleMade}
+use Rattle.model.proofs.Bits.{Bit, b0, b1}
+use Rattle.model.proofs.Tokens.{Offset, colour-bit, colour-⊕}
 
-pub calls-all : (k : ℕ) (gs : List Gate) → calls k gs ≡ charges gs * k
-unfolding calls charges
-calls-all k [] = sym (zero-mul k)
-calls-all k (g ∷ gs) = ap (λ (x : ℕ). charge (kindOf (g .code)) * k + x) (calls-all k gs) ∙ sym (add-mul (charge (kindOf (g .code))) (charges gs) k)
+-- ---- how many: four at a charged gate to garble; one, one and two to evaluate
+
+pub garble-asks-four : (k : ℕ) (s : Site) → length (garbleAsks k s) ≡ 4
+unfolding garbleAsks sealings hashings
+garble-asks-four k s = go (eqb k 1) (eqb k 2)
+  where
+    go : (a b : Bool) → length (cond a (sealings s) (cond b (sealings s) (hashings s))) ≡ 4
+    go true b = refl
+    go false true = refl
+    go false false = refl
+
+-- by a scheme byte
+unfoldable pub askedHeld : ℕ → ℕ
+askedHeld k = cond (eqb k 1) 1 (cond (eqb k 2) 1 2)
+
+pub asked-few : (k : ℕ) → askedHeld k ≤ 2
+unfolding askedHeld
+asked-few k = go (eqb k 1) (eqb k 2)
+  where
+    go : (a b : Bool) → cond a 1 (cond b 1 2) ≤ 2
+    go true b = omega arith
+    go false true = omega arith
+    go false false = omega arith
+
+pub evaluate-asks-held : (k g : ℕ) (A B : Block) → length (evaluateAsks k g A B) ≡ askedHeld k
+unfolding evaluateAsks askedHeld sealingHeld hashingsHeld
+evaluate-asks-held k g A B = go (eqb k 1) (eqb k 2)
+  where
+    go : (a b : Bool) → length (cond a (sealingHeld g A B) (cond b (sealingHeld g A B) (hashingsHeld g A B))) ≡ cond a 1 (cond b 1 2)
+    go true b = refl
+    go false true = refl
+    go false false = refl
+
+-- ---- and summed over the gates: "4p", "p in schemes 1 and 2, 2p in scheme 3"
+
+module _ (γ : Garbling) where
+  pub garble-calls-at : (k : Kind) (s : Site) → garbleCallsAt γ k s ≡ 4 * charge k
+  unfolding garbleCallsAt
+  garble-calls-at (charged u v x) s = garble-asks-four (γ .scheme) s
+  garble-calls-at (free p q c) s = refl
+  garble-calls-at refused s = refl
+
+  pub garble-calls-all : (gs : List Gate) (xs : List Block) → garbleCalls γ gs xs ≡ 4 * charges gs
+  unfolding garbleCalls charges
+  garble-calls-all [] xs = refl
+  garble-calls-all (g ∷ gs) xs =
+      omega (arith, garble-calls-at (kindOf (g .code)) (siteOf γ xs g), garble-calls-all gs (xs ++ (zeroStep γ xs g ∷ [])))
+
+pub garble-made-4p : (c seed : List ℕ) (scheme : ℕ)
+    → garbleMade c seed scheme ≡ made (materialLength scheme (outputs c) (charges (circuitOf c .gates))) (4 * charges (circuitOf c .gates))
+unfolding garbleMade
+garble-made-4p c seed scheme = rw (garble-calls-all (garblingOf c seed scheme) (circuitOf c .gates) (inputZeros (garblingOf c seed scheme)))
+
+module _ (k : ℕ) where
+  pub evaluate-calls-at : (kind : Kind) (g : ℕ) (A B : Block) → evaluateCallsAt k kind g A B ≡ charge kind * askedHeld k
+  unfolding evaluateCallsAt
+  evaluate-calls-at (charged u v x) g A B = evaluate-asks-held k g A B ∙ omega arith
+  evaluate-calls-at (free p q c) g A B = omega arith
+  evaluate-calls-at refused g A B = omega arith
+
+  pub evaluate-calls-all : (gs : List Gate) (bs : List ℕ) (ts : List Block) → evaluateCalls k gs bs ts ≡ charges gs * askedHeld k
+  unfolding evaluateCalls charges
+  evaluate-calls-all [] bs ts = omega arith
+  evaluate-calls-all (g ∷ gs) bs ts =
+      ap₂ (λ (x y : ℕ). x + y) (evaluate-calls-at (kindOf (g .code)) _ _ _) (evaluate-calls-all gs _ _)
+      ∙ sym (add-mul (charge (kindOf (g .code))) (charges gs) (askedHeld k))
+
+pub evaluate-calls-p : (gs : List Gate) (bs : List ℕ) (ts : List Block) → evaluateCalls 1 gs bs ts ≡ charges gs
+unfolding askedHeld
+evaluate-calls-p gs bs ts = evaluate-calls-all 1 gs bs ts ∙ omega arith
+
+pub evaluate-calls-p-reduced : (gs : List Gate) (bs : List ℕ) (ts : List Block) → evaluateCalls 2 gs bs ts ≡ charges gs
+unfolding askedHeld
+evaluate-calls-p-reduced gs bs ts = evaluate-calls-all 2 gs bs ts ∙ omega arith
+
+pub evaluate-calls-2p : (gs : List Gate) (bs : List ℕ) (ts : List Block) → evaluateCalls 3 gs bs ts ≡ 2 * charges gs
+unfolding askedHeld
+evaluate-calls-2p gs bs ts = evaluate-calls-all 3 gs bs ts ∙ omega arith
+
+-- ---- one gate more, at the end
+
+pub garble-calls-snoc : (γ : Garbling) (gs : List Gate) (g : Gate) (xs : List Block)
+    → garbleCalls γ (gs ++ (g ∷ [])) xs ≡ garbleCalls γ gs xs + garbleCallsAt γ (kindOf (g .code)) (siteOf γ (wires (zeroStep γ) gs xs) g)
+unfolding garbleCalls wires
+garble-calls-snoc γ [] g xs = omega arith
+garble-calls-snoc γ (x ∷ gs) g xs = omega (arith, garble-calls-snoc γ gs g (xs ++ (zeroStep γ xs x ∷ [])))
+
+pub evaluate-calls-snoc : (k : ℕ) (gs : List Gate) (g : Gate) (bs : List ℕ) (ts : List Block)
+    → let us = run (schemeOf k) gs bs ts in
+    evaluateCalls k (gs ++ (g ∷ [])) bs ts
+    ≡ evaluateCalls k gs bs ts + evaluateCallsAt k (kindOf (g .code)) (own us) (wire (block 0) us (g .a)) (wire (block 0) us (g .b))
+unfolding evaluateCalls run
+evaluate-calls-snoc k [] g bs ts = omega arith
+evaluate-calls-snoc k (x ∷ gs) g bs ts =
+    omega (arith, evaluate-calls-snoc k gs g (past (schemeOf k) (kindOf (x .code)) bs) (ts ++ (openStep (schemeOf k) bs ts x ∷ [])))
+
+-- ---- uses-only: no call is missing from the lists. Two schemes that agree on the calls listed have the same rows, zero token and opened token.
+
+pub record UsesOnly (S S′ : Scheme) (Agree : List Call → Type 0) (garbling : Site → List Call) (opening : ℕ → Block → Block → List Call) : Type 0 where
+  pub same-rows : (s : Site) → Agree (garbling s) → S .rows s ≡ S′ .rows s
+  pub same-zero : (s : Site) → Agree (garbling s) → S .zeroToken s ≡ S′ .zeroToken s
+  pub same-opened : (g : ℕ) (rows : List Block) (A B : Block) → Agree (opening g A B) → S .opened g rows A B ≡ S′ .opened g rows A B
+
+-- schemes 1 and 2, over two ciphers
+module _ (E E′ : Block → Block → ℕ → Block → Block) where
+  -- they agree on the calls listed
+  abbrev pub CiphersAgree : List Call → Type 0
+  CiphersAgree l = (A B : Block) (T : ℕ) → List·Memᴰ (sealing A B T) l → (Z : Block) → E A B T Z ≡ E′ A B T Z
+
+  -- at a site
+  module _ (s : Site) (agree : CiphersAgree (sealings s)) where
+    same-sealed : (c d : ℕ) → List·Memᴰ (sealingAt s c d) (sealings s) → (z : Block) → sealed E s c d z ≡ sealed E′ s c d z
+    unfolding sealed sealingAt
+    same-sealed c d m z = agree _ _ _ m z
+
+    sealed-00 : (z : Block) → sealed E s 0 0 z ≡ sealed E′ s 0 0 z
+    unfolding sealings
+    sealed-00 = same-sealed 0 0 (List·Memᴰ·head refl)
+
+    sealed-01 : (z : Block) → sealed E s 0 1 z ≡ sealed E′ s 0 1 z
+    unfolding sealings
+    sealed-01 = same-sealed 0 1 (List·Memᴰ·tail (List·Memᴰ·head refl))
+
+    sealed-10 : (z : Block) → sealed E s 1 0 z ≡ sealed E′ s 1 0 z
+    unfolding sealings
+    sealed-10 = same-sealed 1 0 (List·Memᴰ·tail (List·Memᴰ·tail (List·Memᴰ·head refl)))
+
+    sealed-11 : (z : Block) → sealed E s 1 1 z ≡ sealed E′ s 1 1 z
+    unfolding sealings
+    sealed-11 = same-sealed 1 1 (List·Memᴰ·tail (List·Memᴰ·tail (List·Memᴰ·tail (List·Memᴰ·head refl))))
+
+    gax-rows : gax E .rows s ≡ gax E′ .rows s
+    unfolding gax rowAt
+    gax-rows = rw (sealed-00, sealed-01, sealed-10, sealed-11)
+
+    gaxr-zero : reducedZero E s ≡ reducedZero E′ s
+    unfolding reducedZero
+    gaxr-zero = rw sealed-00
+
+    gaxr-rows : gaxr E .rows s ≡ gaxr E′ .rows s
+    unfolding gaxr rowAt
+    gaxr-rows = rw (gaxr-zero, sealed-01, sealed-10, sealed-11)
+
+  -- at a gate
+  same-row : (g : ℕ) (rows : List Block) (A B : Block) → CiphersAgree (sealingHeld g A B) → openRow E g rows A B ≡ openRow E′ g rows A B
+  unfolding openRow sealingHeld
+  same-row g rows A B agree = agree _ _ _ (List·Memᴰ·head refl) _
+
+  pub gax-uses-only : UsesOnly (gax E) (gax E′) CiphersAgree sealings sealingHeld
+  gax-uses-only = record {
+    same-rows = gax-rows;
+    same-zero = λ s agree. unfold gax in refl;
+    same-opened = λ g rows A B agree. unfold gax in (same-row g rows A B agree);
+  }
+
+  pub gaxr-uses-only : UsesOnly (gaxr E) (gaxr E′) CiphersAgree sealings sealingHeld
+  gaxr-uses-only = record {
+    same-rows = gaxr-rows;
+    same-zero = λ s agree. unfold gaxr in (gaxr-zero s agree);
+    same-opened = λ g rows A B agree. unfold gaxr in (same-row g _ A B agree);
+  }
+
+-- scheme 3, over two hashes
+module _ (H H′ : Block → ℕ → Block) where
+  -- they agree on the calls listed
+  abbrev pub HashesAgree : List Call → Type 0
+  HashesAgree l = (x : Block) (i : ℕ) → List·Memᴰ (hashing x i) l → H x i ≡ H′ x i
+
+  module _ (s : Site) (agree : HashesAgree (hashings s)) where
+    hash-a : H (halfA s) (2 * s .g) ≡ H′ (halfA s) (2 * s .g)
+    unfolding hashings
+    hash-a = agree _ _ (List·Memᴰ·head refl)
+
+    hash-ar : H (halfA s ⊕ s .R) (2 * s .g) ≡ H′ (halfA s ⊕ s .R) (2 * s .g)
+    unfolding hashings
+    hash-ar = agree _ _ (List·Memᴰ·tail (List·Memᴰ·head refl))
+
+    hash-b : H (halfB s) (2 * s .g + 1) ≡ H′ (halfB s) (2 * s .g + 1)
+    unfolding hashings
+    hash-b = agree _ _ (List·Memᴰ·tail (List·Memᴰ·tail (List·Memᴰ·head refl)))
+
+    hash-br : H (halfB s ⊕ s .R) (2 * s .g + 1) ≡ H′ (halfB s ⊕ s .R) (2 * s .g + 1)
+    unfolding hashings
+    hash-br = agree _ _ (List·Memᴰ·tail (List·Memᴰ·tail (List·Memᴰ·tail (List·Memᴰ·head refl))))
+
+    same-g : rowG H s ≡ rowG H′ s
+    unfolding rowG
+    same-g = rw (hash-a, hash-ar)
+
+    same-e : rowE H s ≡ rowE H′ s
+    unfolding rowE
+    same-e = rw (hash-b, hash-br)
+
+    half-rows : half H .rows s ≡ half H′ .rows s
+    unfolding half
+    half-rows = rw (same-g, same-e)
+
+    half-zero : half H .zeroToken s ≡ half H′ .zeroToken s
+    unfolding half halfZero joined
+    half-zero = rw (same-g, same-e, hash-a, hash-b)
+
+  same-joined : (g : ℕ) (G E A B : Block) → HashesAgree (hashingsHeld g A B) → joined H g G E A B ≡ joined H′ g G E A B
+  unfolding joined hashingsHeld
+  same-joined g G E A B agree =
+      let a = agree A (2 * g) (List·Memᴰ·head refl) in
+      let b = agree B (2 * g + 1) (List·Memᴰ·tail (List·Memᴰ·head refl)) in
+      rw (a, b)
+
+  pub half-uses-only : UsesOnly (half H) (half H′) HashesAgree hashings hashingsHeld
+  half-uses-only = record {
+    same-rows = half-rows;
+    same-zero = half-zero;
+    same-opened = λ g rows A B agree. unfold half in (same-joined g _ _ A B agree);
+  }
+
+-- ---- needed: no two entries of a list are equal, so that none is listed twice
+
+abbrev pub NotAmong : Call → List Call → Type 0
+NotAmong x [] = Unit {0}
+NotAmong x (y ∷ l) = (x ≡ y → ⊥) × NotAmong x l
+
+abbrev pub Distinct : List Call → Type 0
+Distinct [] = Unit {0}
+Distinct (x ∷ l) = NotAmong x l × Distinct l
+
+-- by their tweaks
+abbrev tweakOf : Call → ℕ
+tweakOf (sealing A B T) = T
+tweakOf (hashing x i) = i
+
+-- or by the colour of what is hashed
+abbrev colourOf : Call → ℕ
+colourOf (sealing A B T) = 0
+colourOf (hashing x i) = colour x
+
+by-tweak : (x y : Call) → (tweakOf x ≡ tweakOf y → ⊥) → x ≡ y → ⊥
+by-tweak x y h e = h (ap tweakOf e)
+
+by-colour : (x y : Call) → (colourOf x ≡ colourOf y → ⊥) → x ≡ y → ⊥
+by-colour x y h e = h (ap colourOf e)
+
+pub sealings-needed : (s : Site) → Distinct (sealings s)
+unfolding sealings sealingAt
+sealings-needed s = (
+  (by-tweak _ _ (λ h. omega arith), (by-tweak _ _ (λ h. omega arith), (by-tweak _ _ (λ h. omega arith), tt))),
+  (
+    (by-tweak _ _ (λ h. omega arith), (by-tweak _ _ (λ h. omega arith), tt)),
+    ((by-tweak _ _ (λ h. omega arith), tt), (tt, tt)),
+  ),
+)
+
+-- R has colour 1
+other-colour : {R : Block} (x : Block) → Offset R → colour x ≡ colour (x ⊕ R) → ⊥
+other-colour {R} x o e = go (colour-bit x) (e ∙ colour-⊕ x R ∙ ap (differ (colour x)) (o .colour-1))
+  where
+    go : {b : ℕ} → Bit b → b ≡ differ b 1 → ⊥
+    go b0 h = omega arith
+    go b1 h = omega arith
+
+pub hashings-needed : (s : Site) → Offset (s .R) → Distinct (hashings s)
+unfolding hashings
+hashings-needed s o = (
+  (by-colour _ _ (other-colour (halfA s) o), (by-tweak _ _ (λ h. omega arith), (by-tweak _ _ (λ h. omega arith), tt))),
+  (
+    (by-tweak _ _ (λ h. omega arith), (by-tweak _ _ (λ h. omega arith), tt)),
+    ((by-colour _ _ (other-colour (halfB s) o), tt), (tt, tt)),
+  ),
+)
+
+pub sealing-held-needed : (g : ℕ) (A B : Block) → Distinct (sealingHeld g A B)
+unfolding sealingHeld
+sealing-held-needed g A B = (tt, tt)
+
+pub hashings-held-needed : (g : ℕ) (A B : Block) → Distinct (hashingsHeld g A B)
+unfolding hashingsHeld
+hashings-held-needed g A B = ((by-tweak _ _ (λ h. omega arith), tt), (tt, tt))

@@ -6,13 +6,13 @@ pub mod Decimal
 pub mod Xor
 pub mod Field
 pub mod Circuits
-pub mod Calls
 pub mod Verdicts
 pub mod Examples
 pub mod Program
 pub mod Bits
 pub mod XorRules
 pub mod Tokens
+pub mod Calls
 pub mod Codes
 pub mod Blocks
 pub mod Sound

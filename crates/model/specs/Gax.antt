@@ -47,6 +47,4 @@ module _ (E : Block → Block → ℕ → Block → Block) where
     zeroToken = λ s. s .fresh;
     rows = λ s. rowAt s (s .fresh) 0 0 ∷ rowAt s (s .fresh) 0 1 ∷ rowAt s (s .fresh) 1 0 ∷ rowAt s (s .fresh) 1 1 ∷ [];
     opened = openRow;
-    garbleCalls = 4;
-    evaluateCalls = 1;
   }

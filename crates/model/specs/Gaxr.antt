@@ -17,6 +17,4 @@ module _ (E : Block → Block → ℕ → Block → Block) where
     zeroToken = reducedZero;
     rows = λ s. rowAt E s (reducedZero s) 0 1 ∷ rowAt E s (reducedZero s) 1 0 ∷ rowAt E s (reducedZero s) 1 1 ∷ [];
     opened = λ g rows. openRow E g (block 0 ∷ rows);
-    garbleCalls = 4;
-    evaluateCalls = 1;
   }

@@ -67,6 +67,4 @@ module _ (H : Block → ℕ → Block) where
     zeroToken = halfZero;
     rows = λ s. rowG s ∷ rowE s ∷ [];
     opened = λ g rows. joined g (getD rows 0 (block 0)) (getD rows 1 (block 0));
-    garbleCalls = 4;
-    evaluateCalls = 2;
   }

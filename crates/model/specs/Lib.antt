@@ -11,6 +11,7 @@ pub mod HalfGates
 pub mod Garbling
 pub mod Material
 pub mod Evaluation
+pub mod Calls
 pub mod Refusals
 pub mod Operations
 pub mod Program

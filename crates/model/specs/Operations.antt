@@ -1,9 +1,9 @@
 -- Document 01, "Operations". Each answer and each buffer at exit, for every argument.
 use Prim.Native.Nat.{ℕ, _+_, _*_}
 use mathlib.Core.Path.{_≡_}
-use mathlib.Core.List.{List, [], _∷_}
+use mathlib.Core.List.{List, []}
 use mathlib.Core.Bool.{not, cond}
-use lib.ListN.{length, getD}
+use lib.ListN.{length, getD, drop}
 use lib.Dec.{ltb, eqb}
 use Rattle.model.specs.declared.Sizes.{Sizes}
 use Rattle.model.specs.declared.Checked.{Checked}
@@ -12,11 +12,12 @@ use Rattle.model.specs.declared.Garbled.{Garbled}
 use Rattle.model.specs.declared.Evaluated.{Evaluated}
 use Rattle.model.specs.declared.Gate.{Gate}
 use Rattle.model.specs.Bytes.{over}
-use Rattle.model.specs.Circuit.{kindOf, charge, charges, circuitOf, inputs, outputs, gates, circuitBytes, plainValues}
-use Rattle.model.specs.Tokens.{garblingOf}
-use Rattle.model.specs.Garbling.{schemeOf, zeroTokens, inputOnes}
+use Rattle.model.specs.Circuit.{charges, circuitOf, inputs, outputs, gates, circuitBytes, plainValues}
+use Rattle.model.specs.Tokens.{garblingOf, inputZeros}
+use Rattle.model.specs.Garbling.{zeroTokens, inputOnes}
 use Rattle.model.specs.Material.{materialLength, joinBlocks, material}
-use Rattle.model.specs.Evaluation.{encodeBytes, evaluateBytes, decodeBytes, tokenAt}
+use Rattle.model.specs.Evaluation.{cut, encodeBytes, evaluateBytes, decodeBytes, tokenAt}
+use Rattle.model.specs.Calls.{garbleCalls, evaluateCalls}
 use Rattle.model.specs.Refusals.{Verdict, fine, refused, refuse, _then_, verdictOf, circuitVerdict, seedVerdict, bitsVerdict, tokensVerdict, schemeVerdict, materialVerdict, roomVerdict, pickVerdict}
 
 -- what an operation answers: a refusal, or its results
@@ -77,11 +78,6 @@ garbleVerdict c seed scheme km kz ko =
     then roomVerdict (16 * (inputs c + gates c)) kz
     then roomVerdict (16 * inputs c) ko
 
--- calls of π: k for each charged gate, summed over the gates
-unfoldable pub calls : ℕ → List Gate → ℕ
-calls k [] = 0
-calls k (g ∷ gs) = charge (kindOf (g .code)) * k + calls k gs
-
 pub data Made : Type 0 where
   made : (length calls : ℕ) → Made
 
@@ -90,13 +86,14 @@ garbledOf (Garbled.Done l k) = yes (made l k)
 garbledOf (Garbled.Refused f) = no (verdictOf f)
 
 -- "Returns the material's length and the calls of π made"
-unfoldable pub garbleMade : List ℕ → ℕ → Made
-garbleMade c scheme =
-    made (materialLength scheme (outputs c) (charges (circuitOf c .gates))) (calls (schemeOf scheme .garbleCalls) (circuitOf c .gates))
+unfoldable pub garbleMade : List ℕ → List ℕ → ℕ → Made
+garbleMade c seed scheme =
+    made (materialLength scheme (outputs c) (charges (circuitOf c .gates)))
+    (garbleCalls (garblingOf c seed scheme) (circuitOf c .gates) (inputZeros (garblingOf c seed scheme)))
 
 -- garble's answer r, and its three buffers: m, z, o at entry and m′, z′, o′ at exit
 pub record GarbleIs (c seed : List ℕ) (scheme : ℕ) (m z o : List ℕ) (r : Answer Made) (m′ z′ o′ : List ℕ) : Type 0 where
-  pub answered : r ≡ answer (garbleVerdict c seed scheme (length m) (length z) (length o)) (garbleMade c scheme)
+  pub answered : r ≡ answer (garbleVerdict c seed scheme (length m) (length z) (length o)) (garbleMade c seed scheme)
   pub material-left : m′ ≡ written (garbleVerdict c seed scheme (length m) (length z) (length o)) (material (garblingOf c seed scheme)) m
   pub zeros-left : z′ ≡ written (garbleVerdict c seed scheme (length m) (length z) (length o)) (joinBlocks (zeroTokens (garblingOf c seed scheme))) z
   pub ones-left : o′ ≡ written (garbleVerdict c seed scheme (length m) (length z) (length o)) (joinBlocks (inputOnes (garblingOf c seed scheme))) o
@@ -131,13 +128,13 @@ abbrev pub evaluatedOf : Evaluated → Answer ℕ
 evaluatedOf (Evaluated.Done k) = yes k
 evaluatedOf (Evaluated.Refused f) = no (verdictOf f)
 
--- "p in schemes 1 and 2, 2p in scheme 3": the scheme's own calls, summed over the gates
-unfoldable pub evaluateCallsOf : List ℕ → List ℕ → ℕ
-evaluateCallsOf c s = calls (schemeOf (getD s 2 0) .evaluateCalls) (circuitOf c .gates)
+-- the calls of π made, from the circuit, the input tokens and the material
+unfoldable pub evaluateCallsOf : List ℕ → List ℕ → List ℕ → ℕ
+evaluateCallsOf c ts s = evaluateCalls (getD s 2 0) (circuitOf c .gates) (drop 9 s) (cut (inputs c) ts)
 
 -- evaluate's answer r, and the buffer, o at entry and x at exit; ts are the input tokens and s the material
 pub record EvaluateIs (c ts s o : List ℕ) (r : Answer ℕ) (x : List ℕ) : Type 0 where
-  pub answered : r ≡ answer (evaluateVerdict c ts s (length o)) (evaluateCallsOf c s)
+  pub answered : r ≡ answer (evaluateVerdict c ts s (length o)) (evaluateCallsOf c ts s)
   pub left : x ≡ written (evaluateVerdict c ts s (length o)) (evaluateBytes (circuitOf c) ts s) o
 
 -- ---- evaluate, handed n, m and the gates as a list of records (01, Circuit): "the answer that the bytes made from them would get"
@@ -147,7 +144,7 @@ unfoldable pub evaluateGatesVerdict : ℕ → ℕ → List Gate → List ℕ →
 evaluateGatesVerdict n m gs ts s room = refuse (ltb 65535 (length gs)) 3 2 then evaluateVerdict (circuitBytes n m gs) ts s room
 
 pub record EvaluateGatesIs (n m : ℕ) (gs : List Gate) (ts s o : List ℕ) (r : Answer ℕ) (x : List ℕ) : Type 0 where
-  pub answered : r ≡ answer (evaluateGatesVerdict n m gs ts s (length o)) (evaluateCallsOf (circuitBytes n m gs) s)
+  pub answered : r ≡ answer (evaluateGatesVerdict n m gs ts s (length o)) (evaluateCallsOf (circuitBytes n m gs) ts s)
   pub left : x ≡ written (evaluateGatesVerdict n m gs ts s (length o)) (evaluateBytes (circuitOf (circuitBytes n m gs)) ts s) o
 
 -- ---- "Decode (circuit, output tokens of 16m bytes, material): m bytes"

@@ -17,5 +17,3 @@ pub record Scheme : Type 0 where
   pub zeroToken : Site → Block  -- X of the gate
   pub rows : Site → List Block  -- its rows, in the material's order
   pub opened : ℕ → List Block → Block → Block → Block  -- evaluation at wire g, from the rows and the tokens held on a and b
-  pub garbleCalls : ℕ  -- calls of π, garbling
-  pub evaluateCalls : ℕ  -- and evaluating

@@ -1,5 +1,4 @@
 // What the schemes seal tokens with: the dual-key cipher of schemes 1 and 2, the hash of scheme 3, and a bit times a block.
-use aes::Pair;
 use aes::permute_fast;
 use aes::permute_pair;
 use block::Block;
@@ -9,7 +8,7 @@ ghost use Prim.Native.Nat.{_≤_};
 ghost use Rattle.aes.specs.Tables.{IsTTables};
 ghost use Rattle.model.specs.Aes.{_⊕_, keyExpansion, fixedKey, times, block};
 ghost use Rattle.model.specs.Gax.{dualKey};
-ghost use Rattle.scheme.specs.Garbled.{maskOf};
+ghost use Rattle.scheme.specs.Garbled.{maskOf, AnswersAre};
 ghost use Rattle.model.specs.HalfGates.{hashBlock, hash};
 
 // "A bit times a block is the block or zero" (01, Scheme 3): by a mask, since a colour is as good as random and a branch on it costs more.
@@ -43,6 +42,13 @@ pub fn dual_key(m: &[u32; 1024], w: &[u8; 176], a: Block, b: Block, tweak: u64, 
     permute_fast(m, w, k).xor(k.xor(z))
 }
 
+// What E or H answers to two that are asked together, and the calls of π made for them.
+pub struct Answers {
+    pub x: Block,
+    pub y: Block,
+    pub calls: usize,
+}
+
 // E of block 0 under a token A with two tokens B, from 2A and the two 4B, which the four rows of a gate share. What is sealed is
 // exclusive-ored in afterwards. Two calls of π.
 pub fn dual_pair(
@@ -53,17 +59,17 @@ pub fn dual_pair(
     i: u64,
     c: Block,
     j: u64,
-) -> Pair
+) -> Answers
     requires { ⌜ IsTTables (now m) ⌝ }
     requires { ⌜ now w ≡ keyExpansion fixedKey ⌝ }
-    ensures { λ r. ⌜ (r .x .bytes ≡ maskOf (a .bytes ⊕ b .bytes ⊕ block i)) × (r .y .bytes ≡ maskOf (a .bytes ⊕ c .bytes ⊕ block j)) ⌝ }
+    ensures { λ r. ⌜ AnswersAre (maskOf (a .bytes ⊕ b .bytes ⊕ block i)) (maskOf (a .bytes ⊕ c .bytes ⊕ block j)) r ⌝ }
 {
     let k = key_block(a, b, i);
     let l = key_block(a, c, j);
     let p = permute_pair(m, w, k, l);
     let x = p.x.xor(k);
     let y = p.y.xor(l);
-    Pair { x, y }
+    Answers { x, y, calls: 2 }
 }
 
 // "2x ⊕ i" (01, Scheme 3).
@@ -74,15 +80,15 @@ fn hash_block(x: Block, i: u64) -> Block
 }
 
 // "H(x,i) = π(2x ⊕ i) ⊕ 2x ⊕ i" (01, Scheme 3), of two tokens: two calls of π.
-pub fn hash_pair(m: &[u32; 1024], w: &[u8; 176], x: Block, i: u64, y: Block, j: u64) -> Pair
+pub fn hash_pair(m: &[u32; 1024], w: &[u8; 176], x: Block, i: u64, y: Block, j: u64) -> Answers
     requires { ⌜ IsTTables (now m) ⌝ }
     requires { ⌜ now w ≡ keyExpansion fixedKey ⌝ }
-    ensures { λ r. ⌜ (r .x .bytes ≡ hash (x .bytes) i) × (r .y .bytes ≡ hash (y .bytes) j) ⌝ }
+    ensures { λ r. ⌜ AnswersAre (hash (x .bytes) i) (hash (y .bytes) j) r ⌝ }
 {
     let k = hash_block(x, i);
     let l = hash_block(y, j);
     let p = permute_pair(m, w, k, l);
     let x = p.x.xor(k);
     let y = p.y.xor(l);
-    Pair { x, y }
+    Answers { x, y, calls: 2 }
 }

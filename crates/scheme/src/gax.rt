@@ -1,11 +1,12 @@
 // GaX and GaXR (01, Scheme 1 and Scheme 2). Rows go by the colours c and d of the operands' tokens, values by the truth values that
 // these tokens carry.
 use crate::GarbledGate;
+use crate::OpenedGate;
 use crate::Site;
+use crate::cipher::Answers;
 use crate::cipher::dual_key;
 use crate::cipher::dual_pair;
 use crate::cipher::times;
-use aes::Pair;
 use block::Block;
 use circuit::code::code_value;
 use model::Colour;
@@ -18,7 +19,8 @@ ghost use Rattle.model.specs.Aes.{block, quadruple, keyExpansion, fixedKey};
 ghost use Rattle.model.specs.Tokens.{colour};
 ghost use Rattle.model.specs.Gax.{dualKey, carried, tokenOf, valueAt, sealed, rowAt, gax};
 ghost use Rattle.model.specs.Gaxr.{reducedZero, gaxr};
-ghost use Rattle.scheme.specs.Garbled.{site, GarbledIs};
+ghost use Rattle.model.specs.Calls.{sealings, sealingHeld};
+ghost use Rattle.scheme.specs.Garbled.{site, AnswersAre, GarbledIs, OpenedIs};
 
 // The truth value that the token of colour c carries on a wire of zero token x: R has colour 1.
 fn carried(x: Block, c: Colour) -> Truth
@@ -63,13 +65,13 @@ fn quadrupled(s: Site, d: Colour) -> Block
 
 // E of block 0 under the operands' tokens of colours c,0 and of colours c,1: two calls of π. E of z is this ⊕ z. b and d are four times the
 // second operand's tokens.
-fn masks(m: &[u32; 1024], w: &[u8; 176], s: Site, c: Colour, b: Block, d: Block) -> Pair
+fn masks(m: &[u32; 1024], w: &[u8; 176], s: Site, c: Colour, b: Block, d: Block) -> Answers
     requires { ⌜ IsTTables (now m) ⌝ }
     requires { ⌜ now w ≡ keyExpansion fixedKey ⌝ }
     requires { ⌜ c .0 ≤ 1 ⌝ }
     requires { ⌜ b .bytes ≡ quadruple (tokenOf (s .r .bytes) (s .xb .bytes) 0) ⌝ }
     requires { ⌜ d .bytes ≡ quadruple (tokenOf (s .r .bytes) (s .xb .bytes) 1) ⌝ }
-    ensures { λ r. ⌜ (r .x .bytes ≡ sealed dualKey (site s) (c .0) 0 (block 0)) × (r .y .bytes ≡ sealed dualKey (site s) (c .0) 1 (block 0)) ⌝ }
+    ensures { λ r. ⌜ AnswersAre (sealed dualKey (site s) (c .0) 0 (block 0)) (sealed dualKey (site s) (c .0) 1 (block 0)) r ⌝ }
 {
     let a = token_of(s.r, s.xa, c).doubled();
     let i = tweak(s.g, c, Colour(0));
@@ -91,7 +93,7 @@ fn row(s: Site, x: Block, c: Colour, d: Colour, mask: Block) -> Block
 pub fn garble_gax(m: &[u32; 1024], w: &[u8; 176], s: Site) -> GarbledGate
     requires { ⌜ IsTTables (now m) ⌝ }
     requires { ⌜ now w ≡ keyExpansion fixedKey ⌝ }
-    ensures { λ r. ⌜ GarbledIs (gax dualKey) (site s) r ⌝ }
+    ensures { λ r. ⌜ GarbledIs (gax dualKey) (sealings (site s)) (site s) r ⌝ }
 {
     let zero = s.fresh;
     let b = quadrupled(s, Colour(0));
@@ -108,6 +110,7 @@ pub fn garble_gax(m: &[u32; 1024], w: &[u8; 176], s: Site) -> GarbledGate
         row1,
         row2,
         row3,
+        calls: p.calls + q.calls,
     }
 }
 
@@ -124,7 +127,7 @@ fn reduced_zero(s: Site, mask: Block) -> Block
 pub fn garble_gaxr(m: &[u32; 1024], w: &[u8; 176], s: Site) -> GarbledGate
     requires { ⌜ IsTTables (now m) ⌝ }
     requires { ⌜ now w ≡ keyExpansion fixedKey ⌝ }
-    ensures { λ r. ⌜ GarbledIs (gaxr dualKey) (site s) r ⌝ }
+    ensures { λ r. ⌜ GarbledIs (gaxr dualKey) (sealings (site s)) (site s) r ⌝ }
 {
     let b = quadrupled(s, Colour(0));
     let d = quadrupled(s, Colour(1));
@@ -140,6 +143,7 @@ pub fn garble_gaxr(m: &[u32; 1024], w: &[u8; 176], s: Site) -> GarbledGate
         row1,
         row2,
         row3: Block::of_number(0),
+        calls: p.calls + q.calls,
     }
 }
 
@@ -153,10 +157,18 @@ pub fn row_index(a: Block, b: Block) -> usize
 }
 
 // The gate's token, from a row and the tokens held on its operands: one call of π.
-pub fn open_row(m: &[u32; 1024], w: &[u8; 176], g: Wire, a: Block, b: Block, row: Block) -> Block
+pub fn open_row(
+    m: &[u32; 1024],
+    w: &[u8; 176],
+    g: Wire,
+    a: Block,
+    b: Block,
+    row: Block,
+) -> OpenedGate
     requires { ⌜ IsTTables (now m) ⌝ }
     requires { ⌜ now w ≡ keyExpansion fixedKey ⌝ }
-    ensures { λ r. ⌜ r .bytes ≡ dualKey (a .bytes) (b .bytes) (4 * g .0 + 2 * colour (a .bytes) + colour (b .bytes)) (row .bytes) ⌝ }
+    ensures { λ r. ⌜ OpenedIs (dualKey (a .bytes) (b .bytes) (4 * g .0 + 2 * colour (a .bytes) + colour (b .bytes)) (row .bytes)) (sealingHeld (g .0) (a .bytes) (b .bytes)) r ⌝ }
 {
-    dual_key(m, w, a, b, tweak(g, a.colour(), b.colour()), row)
+    let token = dual_key(m, w, a, b, tweak(g, a.colour(), b.colour()), row);
+    OpenedGate { token, calls: 1 }
 }

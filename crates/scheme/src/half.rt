@@ -1,5 +1,6 @@
 // Half-gates (01, Scheme 3). A charged gate is two half-gates: the generator's, whose row is G, and the evaluator's, whose row is E.
 use crate::GarbledGate;
+use crate::OpenedGate;
 use crate::Site;
 use crate::cipher::hash_pair;
 use crate::cipher::times;
@@ -13,12 +14,14 @@ ghost use Rattle.model.specs.Aes.{keyExpansion, fixedKey, _⊕_, times};
 ghost use Rattle.model.specs.Circuit.{charged, kindOf};
 ghost use Rattle.model.specs.Tokens.{colour};
 ghost use Rattle.model.specs.HalfGates.{hash, joined, half};
-ghost use Rattle.scheme.specs.Garbled.{site, GarbledIs, HalfIs};
+ghost use Rattle.model.specs.Calls.{hashings, hashingsHeld};
+ghost use Rattle.scheme.specs.Garbled.{site, GarbledIs, HalfIs, OpenedIs};
 
-// One half-gate: the hash of its token, which the gate's zero token needs again, and its row.
+// One half-gate: the hash of its token, which the gate's zero token needs again, its row, and the calls of π made for them.
 struct HalfGate {
     hashed: Block,
     row: Block,
+    calls: usize,
 }
 
 // x ⊕ (1-u)R. α, β and γ are 1 less u, v and the pair's own value: so this makes A of Xa and B of Xb, and adds γR to X of the gate.
@@ -38,7 +41,8 @@ fn half_gate(m: &[u32; 1024], w: &[u8; 176], r: Block, x: Block, i: u64, z: Bloc
     let h = hash_pair(m, w, x, i, x.xor(r), i);
     let hashed = h.x;
     let row = hashed.xor(h.y.xor(z));
-    HalfGate { hashed, row }
+    let calls = h.calls;
+    HalfGate { hashed, row, calls }
 }
 
 // H(A,j) ⊕ sG ⊕ H(B,k) ⊕ t(E⊕A), from the rows G and E, the tokens A and B of colours s and t, and their hashes.
@@ -62,7 +66,7 @@ pub fn garble_half(
     requires { ⌜ IsTTables (now m) ⌝ }
     requires { ⌜ now w ≡ keyExpansion fixedKey ⌝ }
     requires { ⌜ kindOf (s .code) ≡ charged (u .0) (v .0) (own .0) ⌝ }
-    ensures { λ r. ⌜ GarbledIs (half hash) (site s) r ⌝ }
+    ensures { λ r. ⌜ GarbledIs (half hash) (hashings (site s)) (site s) r ⌝ }
 {
     let r = s.r;
     let xa = s.xa;
@@ -83,6 +87,7 @@ pub fn garble_half(
         row1: row_e,
         row2: none,
         row3: none,
+        calls: generator.calls + evaluator.calls,
     }
 }
 
@@ -95,13 +100,15 @@ pub fn open_half(
     re: Block,
     a: Block,
     b: Block,
-) -> Block
+) -> OpenedGate
     requires { ⌜ IsTTables (now m) ⌝ }
     requires { ⌜ now w ≡ keyExpansion fixedKey ⌝ }
-    ensures { λ r. ⌜ r .bytes ≡ joined hash (g .0) (rg .bytes) (re .bytes) (a .bytes) (b .bytes) ⌝ }
+    ensures { λ r. ⌜ OpenedIs (joined hash (g .0) (rg .bytes) (re .bytes) (a .bytes) (b .bytes)) (hashingsHeld (g .0) (a .bytes) (b .bytes)) r ⌝ }
 {
     let j = 2 * (g.0 as u64);
     let k = j + 1;
     let h = hash_pair(m, w, a, j, b, k);
-    join(h.x, h.y, rg, re, a, b)
+    let token = join(h.x, h.y, rg, re, a, b);
+    let calls = h.calls;
+    OpenedGate { token, calls }
 }

@@ -6,6 +6,7 @@ mod gax; // schemes 1 and 2
 mod half; // scheme 3
 
 use block::Block;
+pub use cipher::Answers;
 pub use cipher::dual_key;
 pub use cipher::hash_pair;
 pub use cipher::times;
@@ -25,6 +26,7 @@ ghost use Rattle.aes.specs.Tables.{IsTTables};
 ghost use Rattle.model.specs.Aes.{keyExpansion, fixedKey};
 ghost use Rattle.model.specs.Circuit.{charged, kindOf};
 ghost use Rattle.model.specs.Garbling.{schemeOf};
+ghost use Rattle.model.specs.Calls.{garbleAsks};
 ghost use Rattle.scheme.specs.Garbled.{site, GarbledIs};
 
 // What garbling knows at a charged gate.
@@ -37,13 +39,21 @@ pub struct Site {
     pub xb: Block,
 }
 
-// A charged gate, garbled: its zero token, and its rows in the material's order. A row that the scheme does not store is block 0.
+// A charged gate, garbled: its zero token, its rows in the material's order, and the calls of π made for them. A row that the scheme
+// does not store is block 0.
 pub struct GarbledGate {
     pub zero: Block,
     pub row0: Block,
     pub row1: Block,
     pub row2: Block,
     pub row3: Block,
+    pub calls: usize,
+}
+
+// A charged gate, opened: its token, and the calls of π made for it.
+pub struct OpenedGate {
+    pub token: Block,
+    pub calls: usize,
 }
 
 // A charged gate, garbled by the scheme of a scheme byte. The pair u, v of truth values has a value of its own, own.
@@ -60,7 +70,7 @@ pub fn garble_gate(
     requires { ⌜ now w ≡ keyExpansion fixedKey ⌝ }
     requires { ⌜ (1 ≤ scheme) × (scheme ≤ 3) ⌝ }
     requires { ⌜ kindOf (s .code) ≡ charged (u .0) (v .0) (own .0) ⌝ }
-    ensures { λ r. ⌜ GarbledIs (schemeOf scheme) (site s) r ⌝ }
+    ensures { λ r. ⌜ GarbledIs (schemeOf scheme) (garbleAsks scheme (site s)) (site s) r ⌝ }
 {
     match scheme {
         1 => garble_gax(m, w, s),

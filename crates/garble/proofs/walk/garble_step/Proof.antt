@@ -9,18 +9,18 @@ garble-charged-requires c κs =
     let pre = c .before .before .before .before .before .before .before .before .before .before .before .before .pre in
     (pre .0, (pre .1 .0, step-charged-start _ _ _ _ _ _ _ (c .before .before .before .before .before .before .before .before .before .before .before .before .pre .1 .1 .0) _ _ _ _ (c .before .before .before .before .before .before .before .before .before .before .before .before .pre .1 .1 .1) _ (c .before .before .before .before .before .before .read-operands .ensures) _ (c .before .before .before .before .before .code-kind-by-bits .ensures) _ _ _ (c .before .before .before .u .given .1)))
 
-head-fits : tie.Need-add-result
+head-fits : tie.Need-add-at
 head-fits c = omega (arith, step-small _ _ _ _ _ _ _ (c .before .before .before .before .before .before .before .before .before .before .before .before .before .before .before .before .before .pre .1 .1 .0) _ _ _ _ (c .before .before .before .before .before .before .before .before .before .before .before .before .before .before .before .before .before .pre .1 .1 .1))
 
-rows-fit : tie.Need-mul-result
+rows-fit : tie.Need-mul-at
 rows-fit c = omega (arith, step-small _ _ _ _ _ _ _ (c .before .before .before .before .before .before .before .before .before .before .before .before .before .before .before .before .before .before .pre .1 .1 .0) _ _ _ _ (c .before .before .before .before .before .before .before .before .before .before .before .before .before .before .before .before .before .before .pre .1 .1 .1))
 
-next-fits : tie.Need-add-result-2
+next-fits : tie.Need-add-at-2
 next-fits c = omega (arith, step-small _ _ _ _ _ _ _ (c .before .before .before .before .before .before .before .before .before .before .before .before .before .before .before .before .before .before .pre .1 .1 .0) _ _ _ _ (c .before .before .before .before .before .before .before .before .before .before .before .before .before .before .before .before .before .before .pre .1 .1 .1))
 
 returns : tie.Need-returns
 returns c =
-    step-charged _ _ _ _ _ _ _ (c .before .before .before .before .before .before .before .before .before .before .before .before .before .before .before .before .before .before .pre .1 .1 .0) _ _ _ _ (c .before .before .before .before .before .before .before .before .before .before .before .before .before .before .before .before .before .before .pre .1 .1 .1) _ (c .before .before .before .before .before .before .before .before .before .before .before .before .read-operands .ensures) _ (c .before .before .before .before .before .before .before .before .before .before .before .code-kind-by-bits .ensures) _ _ _ (c .before .before .before .before .before .before .before .before .before .u .given .1) _ _ (c .before .before .before .before .before .garble-charged .ensures)
+    step-charged _ _ _ _ _ _ _ (c .before .before .before .before .before .before .before .before .before .before .before .before .before .before .before .before .before .before .pre .1 .1 .0) _ _ _ _ (c .before .before .before .before .before .before .before .before .before .before .before .before .before .before .before .before .before .before .pre .1 .1 .1) _ (c .before .before .before .before .before .before .before .before .before .before .before .before .read-operands .ensures) _ (c .before .before .before .before .before .before .before .before .before .before .before .code-kind-by-bits .ensures) _ _ _ (c .before .before .before .before .before .before .before .before .before .u .given .1) _ _ _ (c .before .before .before .before .before .garble-charged .ensures)
 
 free-zero-requires : tie.Need-free-zero-requires
 free-zero-requires c κs = (

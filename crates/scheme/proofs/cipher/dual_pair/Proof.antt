@@ -7,10 +7,12 @@ returns : tie.Need-returns
 returns c =
     let p = c .before .before in
     let l = p .before in
-    let k = l .before in (
-      mask-of _ _ _ _ _ _ (k .key-block .ensures) (p .permute-pair .ensures .0) (c .before .xor .ensures),
-      mask-of _ _ _ _ _ _ (l .key-block2 .ensures) (p .permute-pair .ensures .1) (c .xor2 .ensures),
-    )
+    let k = l .before in
+    record {
+      is-x = mask-of _ _ _ _ _ _ (k .key-block .ensures) (p .permute-pair .ensures .0) (c .before .xor .ensures);
+      is-y = mask-of _ _ _ _ _ _ (l .key-block2 .ensures) (p .permute-pair .ensures .1) (c .xor2 .ensures);
+      is-calls = search needs;
+    }
 
 pub dual-pair-spec : {M : Type 1} → statement M
 dual-pair-spec =

@@ -13,10 +13,12 @@ returns c =
     let a = i .before in
     let token = a .before in
     let twice = a .doubled .ensures ∙ ap double (token .token-of .ensures) in
-    let start = token .before in (
-      mask-is _ _ _ _ _ _ _ (c .dual-pair .ensures .0) twice (start .pre .1 .1 .1 .0) (i .tweak .ensures),
-      mask-is _ _ _ _ _ _ _ (c .dual-pair .ensures .1) twice (start .pre .1 .1 .1 .1) (c .before .tweak2 .ensures),
-    )
+    let start = token .before in
+    record {
+      is-x = mask-is _ _ _ _ _ _ _ (c .dual-pair .ensures .is-x) twice (start .pre .1 .1 .1 .0) (i .tweak .ensures);
+      is-y = mask-is _ _ _ _ _ _ _ (c .dual-pair .ensures .is-y) twice (start .pre .1 .1 .1 .1) (c .before .tweak2 .ensures);
+      is-calls = c .dual-pair .ensures .is-calls;
+    }
 
 pub masks-spec : {M : Type 1} → statement M
 masks-spec =

@@ -1,0 +1,82 @@
+-- The calls of π. Document 01, "Scheme 1" to "Scheme 3"; "Four questions": a count is "the sum over gates of the scheme's own calls".
+use Prim.Native.Nat.{ℕ, _+_, _*_}
+use mathlib.Core.Bool.{cond}
+use mathlib.Core.List.{List, [], _∷_, _++_}
+use lib.Dec.{eqb}
+use lib.ListN.{length}
+use Rattle.model.specs.declared.Gate.{Gate}
+use Rattle.model.specs.Circuit.{Kind, charged, free, refused, kindOf, wire}
+use Rattle.model.specs.Aes.{Block, _⊕_, block}
+use Rattle.model.specs.Tokens.{Garbling, colour}
+use Rattle.model.specs.Scheme.{Site}
+use Rattle.model.specs.Gax.{tokenOf}
+use Rattle.model.specs.HalfGates.{halfA, halfB, generatorTweak, evaluatorTweak}
+use Rattle.model.specs.Garbling.{schemeOf, own, siteOf, zeroStep}
+use Rattle.model.specs.Evaluation.{openStep, past}
+
+-- What a scheme asks of its cipher E or of its hash H. Each is one call of π: "E(A,B,T,Z) = π(K) ⊕ K ⊕ Z, K = 2A ⊕ 4B ⊕ T" takes one for A, B and T,
+-- whatever Z is; "H(x,i) = π(2x ⊕ i) ⊕ 2x ⊕ i" takes one for x and i.
+pub data Call : Type 0 where
+  sealing : (A B : Block) (T : ℕ) → Call
+  hashing : (x : Block) (i : ℕ) → Call
+
+-- ---- at a charged gate, garbling
+
+-- schemes 1 and 2: the tokens of colours c and d, and the tweak 4g+2c+d
+unfoldable pub sealingAt : Site → ℕ → ℕ → Call
+sealingAt s c d = sealing (tokenOf (s .R) (s .Xa) c) (tokenOf (s .R) (s .Xb) d) (4 * s .g + 2 * c + d)
+
+-- "For each pair of truth values, with tokens A and B of colours c and d": all four pairs, that of colours 0,0 also where row 0 is not stored
+unfoldable pub sealings : Site → List Call
+sealings s = sealingAt s 0 0 ∷ sealingAt s 0 1 ∷ sealingAt s 1 0 ∷ sealingAt s 1 1 ∷ []
+
+-- scheme 3: "H(A,j) ⊕ H(A⊕R,j)" of row G, "H(B,k) ⊕ H(B⊕R,k)" of row E; X of the gate takes two of them again
+unfoldable pub hashings : Site → List Call
+hashings s =
+    hashing (halfA s) (generatorTweak (s .g)) ∷ hashing (halfA s ⊕ s .R) (generatorTweak (s .g))
+    ∷ hashing (halfB s) (evaluatorTweak (s .g)) ∷ hashing (halfB s ⊕ s .R) (evaluatorTweak (s .g)) ∷ []
+
+-- by a scheme byte
+unfoldable pub garbleAsks : ℕ → Site → List Call
+garbleAsks k s = cond (eqb k 1) (sealings s) (cond (eqb k 2) (sealings s) (hashings s))
+
+-- ---- at a charged gate of wire g, evaluating, with A and B held
+
+-- schemes 1 and 2: "the gate's token is E(A,B,4g+2c+d, that row)"
+unfoldable pub sealingHeld : ℕ → Block → Block → List Call
+sealingHeld g A B = sealing A B (4 * g + 2 * colour A + colour B) ∷ []
+
+-- scheme 3: "H(A,j)" and "H(B,k)"
+unfoldable pub hashingsHeld : ℕ → Block → Block → List Call
+hashingsHeld g A B = hashing A (generatorTweak g) ∷ hashing B (evaluatorTweak g) ∷ []
+
+-- by a scheme byte
+unfoldable pub evaluateAsks : ℕ → ℕ → Block → Block → List Call
+evaluateAsks k g A B = cond (eqb k 1) (sealingHeld g A B) (cond (eqb k 2) (sealingHeld g A B) (hashingsHeld g A B))
+
+-- ---- summed over the gates: a free gate asks nothing
+
+module _ (γ : Garbling) where
+  unfoldable pub garbleCallsAt : Kind → Site → ℕ
+  garbleCallsAt (charged u v x) s = length (garbleAsks (γ .scheme) s)
+  garbleCallsAt (free p q c) s = 0
+  garbleCallsAt refused s = 0
+
+  -- the gates gs, which come after the wires of zero tokens xs
+  unfoldable pub garbleCalls : List Gate → List Block → ℕ
+  garbleCalls [] xs = 0
+  garbleCalls (g ∷ gs) xs = garbleCallsAt (kindOf (g .code)) (siteOf γ xs g) + garbleCalls gs (xs ++ (zeroStep γ xs g ∷ []))
+
+-- k is the scheme byte
+module _ (k : ℕ) where
+  unfoldable pub evaluateCallsAt : Kind → ℕ → Block → Block → ℕ
+  evaluateCallsAt (charged u v x) g A B = length (evaluateAsks k g A B)
+  evaluateCallsAt (free p q c) g A B = 0
+  evaluateCallsAt refused g A B = 0
+
+  -- the gates gs, which come after the wires of tokens ts; bs is what is left of the material, from the next row record on
+  unfoldable pub evaluateCalls : List Gate → List ℕ → List Block → ℕ
+  evaluateCalls [] bs ts = 0
+  evaluateCalls (g ∷ gs) bs ts =
+      evaluateCallsAt (kindOf (g .code)) (own ts) (wire (block 0) ts (g .a)) (wire (block 0) ts (g .b))
+      + evaluateCalls gs (past (schemeOf k) (kindOf (g .code)) bs) (ts ++ (openStep (schemeOf k) bs ts g ∷ []))
