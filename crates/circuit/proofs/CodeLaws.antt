@@ -1,19 +1,23 @@
--- The codes that no arm of `code_kind` names are refused; and the bits of the constants by which a code is known without a branch. Both are
--- computed over the sixteen codes. Assumes nothing.
-use Prim.Native.Nat.{ℕ, _/_, _%_, _^_, _<_, _≤_}
+-- The codes that no arm of `matched_kind` names are refused; and the number that `all_threes` makes of the match has at a code's places what
+-- its kind has. Both are computed over the sixteen codes. Assumes nothing.
+use Prim.Native.Nat.{ℕ, zero, suc, _+_, _*_, _-_, _/_, _%_, _^_, _<_, _≤_}
 use native.Mathlib.Decide.{decLt}
 use native.Mathlib.Omega.{arith}
 use mathlib.Core.Path.{_≡_, refl, sym, ap, _∙_}
 use mathlib.Core.Bool.{Bool, true, false, _||_, false≢true}
 use mathlib.Core.List.{List}
 use borrow.Author.Tests.{ne-eqb}
-use lib.Dec.{T, eqb}
+use lib.Dec.{T, eqb, ltb, ltb→lt}
+use native.Mathlib.Numerals.{add-one}
 use lib.ListN.{getD, List·getD-eq-default}
+use Rattle.model.specs.declared.Truth.{Truth}
+use Rattle.model.specs.declared.Kind as Kinds
 use Rattle.model.specs.Bytes.{tabulate}
 use Rattle.model.specs.Circuit.{Kind, charged, free, refused, kinds, kindOf, charge}
 use Rattle.model.specs.Refusals.{isRefused}
 use Rattle.model.proofs.Lists.{entry}
 use Rattle.model.proofs.Table.{every, at}
+use Rattle.circuit.specs.Answers.{meaning, threeBits, lastThrees}
 
 past-codes : (code : ℕ) → 15 < code → kindOf code ≡ refused
 unfolding kindOf kinds
@@ -24,7 +28,7 @@ agree : {A : Type 0} (d : A) (f g : ℕ → A) → tabulate 16 f ≡ tabulate 16
 agree {A} d f g e code h =
     sym (entry d 16 f code (omega arith)) ∙ ap (λ (xs : List A). getD xs code d) e ∙ entry d 16 g code (omega arith)
 
--- ---- code_kind: the codes that no arm names are refused
+-- ---- matched_kind: the codes that no arm names are refused
 
 named : ℕ → Bool
 named k = eqb k 1 || eqb k 2 || eqb k 4 || eqb k 6 || eqb k 7 || eqb k 8 || eqb k 9 || eqb k 11 || eqb k 13 || eqb k 14
@@ -61,46 +65,108 @@ module _ (code : ℕ) (h1 : code ≡ 1 → ⊥) (h2 : code ≡ 2 → ⊥) (h4 : 
       go (Dec.yes h) = sym (small h)
       go (Dec.no h) = sym (past-codes code (omega arith))
 
--- ---- code_charge and code_refused
+-- ---- code_charge and code_refused: what the match gave
 
-pub charge-past : (code : ℕ) → 15 < code → 0 ≡ charge (kindOf code)
-charge-past code h = rw (past-codes code h)
+module _ (code : ℕ) (k : Kinds.Kind) (is-k : meaning k ≡ kindOf code) where
+  module _ (u v x : Truth) (e : k ≡ Kinds.Kind.Charged u v x) where
+    pub charge-charged : 1 ≡ charge (kindOf code)
+    charge-charged = rw (← is-k, e)
 
-pub charge-bit : (code x : ℕ) → code ≤ 15 → x ≡ 0x6996 / 2 ^ code % 2 → x ≡ charge (kindOf code)
-unfolding kindOf kinds
-charge-bit code x h e = e ∙ agree 0 (λ k. 0x6996 / 2 ^ k % 2) (λ k. charge (kindOf k)) refl code h
+    pub charged-known : false ≡ isRefused (kindOf code)
+    charged-known = rw (← is-k, e)
 
-pub refused-past : (code : ℕ) → 15 < code → true ≡ isRefused (kindOf code)
-refused-past code h = rw (past-codes code h)
+  module _ (p q c : ℕ) (e : k ≡ Kinds.Kind.Free p q c) where
+    pub charge-free : 0 ≡ charge (kindOf code)
+    charge-free = rw (← is-k, e)
 
-toBit : Bool → ℕ
-toBit true = 0
-toBit false = 1
+    pub free-known : false ≡ isRefused (kindOf code)
+    free-known = rw (← is-k, e)
 
-pub refused-bit : (code x : ℕ) → code ≤ 15 → x ≡ 0x6BD6 / 2 ^ code % 2 → eqb x 0 ≡ isRefused (kindOf code)
-unfolding kindOf kinds toBit
-refused-bit code x h e =
-    rw (e, agree 0 (λ k. 0x6BD6 / 2 ^ k % 2) (λ k. toBit (isRefused (kindOf k))) refl code h) (either (isRefused (kindOf code)))
-  where
-    either : (b : Bool) → eqb (toBit b) 0 ≡ b
-    either true = refl
-    either false = refl
+  module _ (e : k ≡ Kinds.Kind.Refused) where
+    pub charge-refused : 0 ≡ charge (kindOf code)
+    charge-refused = rw (← is-k, e)
 
-pub ruleset charge-cases = (charge-past, charge-bit)
+    pub refused-known : true ≡ isRefused (kindOf code)
+    refused-known = rw (← is-k, e)
 
-pub ruleset refused-cases = (refused-past, refused-bit)
+pub ruleset charge-cases = (charge-charged, charge-free, charge-refused)
 
--- ---- code_kind_by_bits
+pub ruleset refused-cases = (charged-known, free-known, refused-known)
 
--- a code's kind, with what the constants have for the code
-read : ℕ → Kind → Kind
-read code (charged u v x) = charged (0x0990 / 2 ^ code % 2) (0x2184 / 2 ^ code % 2) (0x0116 / 2 ^ code % 2)
-read code (free p q c) = free 1 1 (0x0200 / 2 ^ code % 2)
-read code refused = refused
+-- ---- three_bits
 
-read-right : (code : ℕ) → code ≤ 15 → read code (kindOf code) ≡ kindOf code
+module _ (k : Kinds.Kind) where
+  pub three-charged : (u v x : Truth) → k ≡ Kinds.Kind.Charged u v x → (r : ℕ) → r ≡ 4 * u .0 + 2 * v .0 + x .0 → r ≡ threeBits (meaning k)
+  three-charged u v x e r is-r = rw e is-r
+
+  pub three-free : (p q c : ℕ) → k ≡ Kinds.Kind.Free p q c → (r : ℕ) → r ≡ 4 * p + 2 * q + c → r ≡ threeBits (meaning k)
+  three-free p q c e r is-r = rw e is-r
+
+  pub three-refused : k ≡ Kinds.Kind.Refused → 0 ≡ threeBits (meaning k)
+  three-refused e = rw e
+
+pub ruleset three-cases = (three-charged, three-free, three-refused)
+
+-- ---- all_threes
+
+-- one code more fits a number of 64 bits, computed at each of the sixteen
+fits : ℕ → ℕ → Bool
+fits i x = ltb (16 * lastThrees i + threeBits (kindOf (15 - i))) (2 ^ 64)
+
+fit-rule : T (every fits 0 (tabulate 16 (λ i. i)))
+unfolding fits lastThrees kindOf kinds
+fit-rule = tt
+
+module _ (i : ℕ) (h : i < 16) where
+  threes-fit : 16 * lastThrees i + threeBits (kindOf (15 - i)) < 2 ^ 64
+  unfolding fits
+  threes-fit = ltb→lt _ _ (at fits (tabulate 16 (λ i. i)) fit-rule i h)
+
+-- the codes done, and the number so far
+pub record Packing (i all : ℕ) : Type 0 where
+  pub few : i ≤ 16
+  pub is-all : all ≡ lastThrees i
+
+pub packing-start : Packing 0 0
+unfolding lastThrees
+packing-start = record { few = omega arith; is-all = refl }
+
+module _ (i all : ℕ) (so-far : Packing i all) where
+  module _ (h : i < 16) where
+    pub pack-times : 16 * all < 2 ^ 64
+    pack-times = rw (so-far .is-all) (omega (arith, threes-fit i h))
+
+    module _ (k : Kinds.Kind) (is-k : meaning k ≡ kindOf (15 - i)) (r : ℕ) (is-r : r ≡ threeBits (meaning k)) where
+      pub pack-sum : 16 * all + r < 2 ^ 64
+      pack-sum = rw (so-far .is-all, is-r, is-k) (threes-fit i h)
+
+      pub packing-turn : Packing (i + 1) (16 * all + r)
+      unfolding lastThrees
+      packing-turn = record { few = omega arith; is-all = rw (add-one, so-far .is-all, is-r, is-k) }
+
+  pub packing-end : 16 ≤ i → all ≡ lastThrees 16
+  packing-end h = so-far .is-all ∙ ap lastThrees (omega (arith, so-far .few))
+
+-- ---- code_three
+
+three-places : (code : ℕ) → code ≤ 15 → lastThrees 16 / 2 ^ (4 * code) % 16 ≡ threeBits (kindOf code)
+unfolding lastThrees kindOf kinds
+three-places code h = agree 0 (λ k. lastThrees 16 / 2 ^ (4 * k) % 16) (λ k. threeBits (kindOf k)) refl code h
+
+pub three-read : (code all : ℕ) → code ≤ 15 → all ≡ lastThrees 16 → all / 2 ^ (4 * code) % 16 ≡ threeBits (kindOf code)
+three-read code all h e = rw e (three-places code h)
+
+-- ---- code_kind
+
+-- a kind, with what its three bits have
+read : Kind → Kind
+read (charged u v x) = charged (threeBits (charged u v x) / 4) (threeBits (charged u v x) / 2 % 2) (threeBits (charged u v x) % 2)
+read (free p q c) = free (threeBits (free p q c) / 4) (threeBits (free p q c) / 2 % 2) (threeBits (free p q c) % 2)
+read refused = refused
+
+read-right : (code : ℕ) → code ≤ 15 → read (kindOf code) ≡ kindOf code
 unfolding kindOf kinds read
-read-right code h = agree refused (λ k. read k (kindOf k)) kindOf refl code h
+read-right code h = agree refused (λ k. read (kindOf k)) kindOf refl code h
 
 module _ (code : ℕ) where
   in-use : (kindOf code ≡ refused → ⊥) → code ≤ 15
@@ -117,15 +183,14 @@ module _ (code : ℕ) where
         go : x ≡ 0 → ⊥
         go e = omega arith
 
-    pub kind-charged : (u v own : ℕ) → u ≡ 0x0990 / 2 ^ code % 2 → v ≡ 0x2184 / 2 ^ code % 2 → own ≡ 0x0116 / 2 ^ code % 2 → charged u v own ≡ kindOf code
+    pub kind-charged : (t : ℕ) → t ≡ threeBits (kindOf code) → charged (t / 4) (t / 2 % 2) (t % 2) ≡ kindOf code
     unfolding read
-    kind-charged u v own is-u is-v is-own = rw (is-u, is-v, is-own) (go (kindOf code) (read-right code charged-code) (sym is-x ∙ one))
+    kind-charged t is-t = rw is-t (go (kindOf code) (read-right code charged-code) (sym is-x ∙ one))
       where
         none : charge refused ≡ 1 → ⊥
         none e = omega arith
 
-        go : (k : Kind) → read code k ≡ k → charge k ≡ 1
-            → charged (0x0990 / 2 ^ code % 2) (0x2184 / 2 ^ code % 2) (0x0116 / 2 ^ code % 2) ≡ k
+        go : (k : Kind) → read k ≡ k → charge k ≡ 1 → charged (threeBits k / 4) (threeBits k / 2 % 2) (threeBits k % 2) ≡ k
         go (charged _ _ _) e _ = e
         go (free _ _ _) _ h = absurd (none h)
         go refused _ h = absurd (none h)
@@ -145,11 +210,11 @@ module _ (code : ℕ) where
         go : b ≡ true → ⊥
         go e = false≢true (sym no ∙ e)
 
-    pub kind-free : (x : ℕ) → x ≡ charge (kindOf code) → (x ≡ 1 → ⊥) → (c : ℕ) → c ≡ 0x0200 / 2 ^ code % 2 → free 1 1 c ≡ kindOf code
+    pub kind-free : (x : ℕ) → x ≡ charge (kindOf code) → (x ≡ 1 → ⊥) → (t : ℕ) → t ≡ threeBits (kindOf code) → free (t / 4) (t / 2 % 2) (t % 2) ≡ kindOf code
     unfolding read
-    kind-free x is-x h c is-c = rw is-c (go (kindOf code) (read-right code free-code) (sym is-b ∙ no) (λ e. h (is-x ∙ e)))
+    kind-free x is-x h t is-t = rw is-t (go (kindOf code) (read-right code free-code) (sym is-b ∙ no) (λ e. h (is-x ∙ e)))
       where
-        go : (k : Kind) → read code k ≡ k → isRefused k ≡ false → (charge k ≡ 1 → ⊥) → free 1 1 (0x0200 / 2 ^ code % 2) ≡ k
+        go : (k : Kind) → read k ≡ k → isRefused k ≡ false → (charge k ≡ 1 → ⊥) → free (threeBits k / 4) (threeBits k / 2 % 2) (threeBits k % 2) ≡ k
         go (charged _ _ _) _ _ l = absurd (l refl)
         go (free _ _ _) e _ _ = e
         go refused _ l _ = absurd (false≢true (sym l))

@@ -1,5 +1,5 @@
 -- The answers of the inner functions, in the model's terms: each enum as a verdict or an `Answer`, and what it must be.
-use Prim.Native.Nat.{ℕ, _+_, _≤_}
+use Prim.Native.Nat.{ℕ, zero, suc, _+_, _*_, _-_, _≤_}
 use mathlib.Core.Path.{_≡_}
 use mathlib.Core.List.{List}
 use lib.ListN.{length, getD, take}
@@ -24,6 +24,17 @@ abbrev pub meaning : Kinds.Kind → Kind
 meaning (Kinds.Kind.Charged u v own) = charged (u .0) (v .0) (own .0)
 meaning (Kinds.Kind.Free p q c) = free p q c
 meaning Kinds.Kind.Refused = refused
+
+-- what a kind has beside its case, as the bits of one number
+abbrev pub threeBits : Kind → ℕ
+threeBits (charged u v x) = 4 * u + 2 * v + x
+threeBits (free p q c) = 4 * p + 2 * q + c
+threeBits refused = 0
+
+-- that of the last i of the sixteen codes in one number, four places for each, the lowest code lowest
+unfoldable pub lastThrees : ℕ → ℕ
+lastThrees zero = 0
+lastThrees (suc i) = 16 * lastThrees i + threeBits (kindOf (15 - i))
 
 -- ---- the header
 

@@ -1,14 +1,15 @@
 // What a code means: its kind, and its value for two truth values.
 ghost use mathlib.Core.Path.{_≡_};
-ghost use Prim.Native.Nat.{_/_, _%_, _^_, _≤_};
+ghost use Prim.Native.Nat.{_+_, _*_, _≤_};
 ghost use Rattle.model.specs.Circuit.{value, kindOf, charge};
 ghost use Rattle.model.specs.Refusals.{isRefused};
-ghost use Rattle.circuit.specs.Answers.{meaning};
+ghost use Rattle.circuit.specs.Answers.{meaning, threeBits, lastThrees};
 use model::Kind;
 use model::Truth;
 
-// The kind of a code, one arm for each that is not refused (01, Circuit).
-pub fn code_kind(code: u8) -> Kind
+// The match over the code number, one arm for each code that is not refused (01, Circuit). It is the one place that knows the codes:
+// whatever else is asked of a code comes from here.
+fn matched_kind(code: u8) -> Kind
     ensures { λ r. ⌜ meaning r ≡ kindOf code ⌝ }
 {
     match code {
@@ -26,51 +27,86 @@ pub fn code_kind(code: u8) -> Kind
     }
 }
 
-// Bit `code` of a constant: a bit for each of the sixteen codes. So a code is known by no branch: codes come in any order, and a
-// branch on each would cost more.
-fn code_bit(constant: u32, code: u8) -> u8
-    requires { ⌜ code ≤ 15 ⌝ }
-    ensures { λ r. ⌜ r ≡ constant / 2 ^ code % 2 ⌝ }
-{
-    ((constant >> (code as u32)) % 2) as u8
-}
-
-// What a code adds to p: bit c of the constant is 1 if code c is charged.
+// What a code adds to p.
 pub fn code_charge(code: u8) -> usize
     ensures { λ r. ⌜ r ≡ charge (kindOf code) ⌝ }
 {
-    if 15 < code {
-        return 0;
+    match matched_kind(code) {
+        Kind::Charged(_, _, _) => 1,
+        Kind::Free { p: _, q: _, c: _ } => 0,
+        Kind::Refused => 0,
     }
-    code_bit(0x6996, code) as usize
 }
 
-// Whether a code is refused: bit c of the constant is 1 if code c is charged or free.
+// Whether a code is refused.
 pub fn code_refused(code: u8) -> bool
     ensures { λ r. ⌜ r ≡ isRefused (kindOf code) ⌝ }
 {
-    if 15 < code {
-        return true;
+    match matched_kind(code) {
+        Kind::Charged(_, _, _) => false,
+        Kind::Free { p: _, q: _, c: _ } => false,
+        Kind::Refused => true,
     }
-    code_bit(0x6BD6, code) == 0
 }
 
-// The kind again, for the garbler's loop. Of a charged code's constants the first has the codes whose own pair has u=1, the second
-// those that have v=1 there, the third those that have the value 1 there. Of the free codes XNOR alone, 9, adds 1.
-pub fn code_kind_by_bits(code: u8) -> Kind
+// Three bits as one number.
+fn joined(x: u8, y: u8, z: u8) -> u64
+    ensures { λ r. ⌜ r ≡ 4 * x + 2 * y + z ⌝ }
+{
+    4 * (x as u64) + 2 * (y as u64) + (z as u64)
+}
+
+// What a kind has beside its case: a charged one its pair and the value there, a free one p, q and c.
+fn three_bits(k: Kind) -> u64
+    ensures { λ r. ⌜ r ≡ threeBits (meaning k) ⌝ }
+{
+    match k {
+        Kind::Charged(u, v, own) => joined(u.0, v.0, own.0),
+        Kind::Free { p, q, c } => joined(p, q, c),
+        Kind::Refused => 0,
+    }
+}
+
+// The same of all sixteen codes, four places of one number for each, code 0 lowest. The compiler works this out: what is left of it
+// and of the match is a number.
+fn all_threes() -> u64
+    ensures { λ r. ⌜ r ≡ lastThrees 16 ⌝ }
+{
+    let mut all: u64 = 0;
+    let mut done: u8 = 0;
+    while done < 16 {
+        all = 16 * all + three_bits(matched_kind(15 - done));
+        done += 1;
+    }
+    all
+}
+
+// The places of one code.
+fn code_three(code: u8) -> u8
+    requires { ⌜ code ≤ 15 ⌝ }
+    ensures { λ r. ⌜ r ≡ threeBits (kindOf code) ⌝ }
+{
+    ((all_threes() >> (4 * (code as u32))) % 16) as u8
+}
+
+// The kind of a code, for the operations. It is what the match gives, and no jump by the code: codes come in any order, and a jump for
+// each would be mispredicted at nearly every gate.
+pub fn code_kind(code: u8) -> Kind
     ensures { λ r. ⌜ meaning r ≡ kindOf code ⌝ }
 {
     if code_charge(code) == 1 {
-        let u = Truth(code_bit(0x0990, code));
-        let v = Truth(code_bit(0x2184, code));
-        let own = Truth(code_bit(0x0116, code));
-        return Kind::Charged(u, v, own);
+        let x = code_three(code);
+        return Kind::Charged(Truth(x / 4), Truth(x / 2 % 2), Truth(x % 2));
     }
     if code_refused(code) {
         return Kind::Refused;
     }
-    let c = code_bit(0x0200, code);
-    Kind::Free { p: 1, q: 1, c }
+    let x = code_three(code);
+    Kind::Free {
+        p: x / 4,
+        q: x / 2 % 2,
+        c: x % 2,
+    }
 }
 
 // Bit 2u+v of the code (01, Circuit).

@@ -8,7 +8,7 @@ use crate::records::Plan;
 use crate::records::garble_charged;
 use block::load;
 use block::store;
-use circuit::code::code_kind_by_bits;
+use circuit::code::code_kind;
 use circuit::gates::gate_at;
 use model::Kind;
 use model::Wire;
@@ -61,7 +61,7 @@ pub fn garble_step(
     let n = plan.n;
     let g = read_operands(circuit, n, k, zeros);
     let slot = 16 * (n + k);
-    match code_kind_by_bits(g.code) {
+    match code_kind(g.code) {
         Kind::Charged(u, v, own) => {
             let calls = garble_charged(m, w, ws, plan, g, u, v, own, material, at, zeros, slot);
             let at = at + 4 + 16 * plan.stored;

@@ -6,4 +6,5 @@ use Rattle.circuit.proofs.code.code_charge.Tie as tie
 pub code-charge-spec : {M : Type 1} → statement M
 code-charge-spec =
     tie.close
-    (tie.spec (λ c. search charge-cases) (λ c. search needs) (λ c. search needs) (λ c. search charge-cases))
+    (tie.spec (λ c κs. search needs) (λ c. search needs) (λ c. search needs) (λ c. search needs)
+    (λ c. search charge-cases) (λ c. search charge-cases) (λ c. search charge-cases))

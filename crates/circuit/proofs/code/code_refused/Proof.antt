@@ -6,4 +6,5 @@ use Rattle.circuit.proofs.code.code_refused.Tie as tie
 pub code-refused-spec : {M : Type 1} → statement M
 code-refused-spec =
     tie.close
-    (tie.spec (λ c. search refused-cases) (λ c. search needs) (λ c. search refused-cases))
+    (tie.spec (λ c κs. search needs) (λ c. search needs) (λ c. search needs) (λ c. search needs)
+    (λ c. search refused-cases) (λ c. search refused-cases) (λ c. search refused-cases))
