@@ -19,7 +19,7 @@ fn last_digit(x: usize) -> u8
     b'0' + (x % 10) as u8
 }
 
-// The digits of a number, the last one first: it is what dividing by 10 leaves. A number of 64 bits has at most 20.
+// The digits of a number, found from the last on, which is what division by 10 leaves over. A number of 64 bits has at most 20.
 fn digits_of(x: usize) -> Digits
     ensures { λ r. ⌜ DigitsAre x (r .bytes) (r .first) ⌝ }
 {

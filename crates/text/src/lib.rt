@@ -1,5 +1,4 @@
 // What the program prints (01, Table of examples), written to a buffer: decimal numbers, lines, and the whole text of an input.
-ghost use mathlib.Core.Path.{_≡_};
 ghost use Prim.Native.Nat.{_≤_};
 ghost use lib.ListN.{length};
 ghost use Rattle.model.specs.Program.{programText};
@@ -14,13 +13,13 @@ use model::Checked;
 pub mod decimal;
 pub mod lines;
 
-// A text: its bytes are the first `len` of the array.
+// A text: the first `len` bytes of the array. There is room for seven numbers of at most 20 digits, with a byte after each.
 pub struct Text {
     pub bytes: [u8; 147],
     pub len: usize,
 }
 
-// Writes what the program prints of an input to the front of a buffer, and answers its length. The longest text is seven numbers.
+// Writes what the program prints of an input to the front of a buffer, and answers its length.
 fn write_text(input: &[u8], out: &mut [u8]) -> usize
     requires { ⌜ 147 ≤ length (now out) ⌝ }
     ensures { λ r. ⌜ Wrote 147 (programText (now (input .entry))) (now (out .entry)) 0 r (now (out .exit)) ⌝ }
@@ -37,7 +36,7 @@ fn write_text(input: &[u8], out: &mut [u8]) -> usize
     }
 }
 
-// What the program prints of an input.
+// What the program prints of an input, which may be any bytes.
 pub fn program_text(input: &[u8]) -> Text
     ensures { λ r. ⌜ TextIs (now (input .entry)) (r .bytes) (r .len) ⌝ }
 {
