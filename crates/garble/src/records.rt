@@ -4,7 +4,7 @@ ghost use Rattle.model.specs.Bytes.{put};
 ghost use Rattle.aes.specs.Tables.{IsTTables};
 ghost use Rattle.model.specs.Aes.{keyExpansion, fixedKey};
 ghost use Rattle.garble.specs.Walk.{RecordRoom, recordBytes, FreshIs, siteAt, ChargedStart, ChargedIs};
-use crate::seed::seed_block;
+use crate::seed::seed_block_fast;
 use block::Block;
 use block::store;
 use material::writers::write_record_head;
@@ -64,7 +64,7 @@ fn fresh_block(m: &[u32; 1024], ws: &[u8; 176], scheme: u8, own: Wire) -> Block
     ensures { λ r. ⌜ FreshIs (now (ws .entry)) scheme (own .0) (r .bytes) ⌝ }
 {
     if scheme == 1 {
-        seed_block(m, ws, own.0 as usize)
+        seed_block_fast(m, ws, own.0 as usize)
     } else {
         Block::of_number(0)
     }

@@ -1,7 +1,7 @@
 // A whole garbling, once nothing refuses: the inputs and the header first, then the gates, then the last record.
 ghost use mathlib.Core.Path.{_≡_};
 ghost use Rattle.aes.specs.Tables.{IsTTables};
-ghost use Rattle.model.specs.Aes.{keyExpansion, fixedKey};
+ghost use Rattle.model.specs.Aes.{IsSBox, keyExpansion, fixedKey};
 ghost use Rattle.garble.specs.Walk.{WalkOf, FrontStart, FrontIs, BodyStart, BodyIs};
 ghost use Rattle.garble.specs.Whole.{WholeStart, WholeIs};
 use crate::last::write_last;
@@ -21,7 +21,7 @@ use model::Sizes;
 
 // The inputs' tokens, and the material's header.
 fn garble_front(
-    m: &[u32; 1024],
+    t: &[u8; 256],
     ws: &[u8; 176],
     r: Block,
     scheme: u8,
@@ -30,11 +30,11 @@ fn garble_front(
     zeros: &mut [u8],
     ones: &mut [u8],
 )
-    requires { ⌜ IsTTables (now m) ⌝ }
+    requires { ⌜ IsSBox (now t) ⌝ }
     requires { ⌜ FrontStart (z .n) (now material) (now zeros) (now ones) ⌝ }
     ensures { λ _. ⌜ FrontIs (now (ws .entry)) (r .bytes) scheme (z .n) (z .m) (z .q) (now (material .entry)) (now (zeros .entry)) (now (ones .entry)) (now (material .exit)) (now (zeros .exit)) (now (ones .exit)) ⌝ }
 {
-    garble_inputs(m, ws, r, z.n, zeros, ones);
+    garble_inputs(t, ws, r, z.n, zeros, ones);
     write_header(material, scheme, z.n, z.m, z.q);
 }
 
@@ -80,9 +80,9 @@ pub fn garble_whole(
     let m = t_tables();
     let w = fixed_schedule();
     let ws = expand_key(&t, load(seed, 0));
-    let r = seed_block(&m, &ws, 0).coloured();
+    let r = seed_block(&t, &ws, 0).coloured();
     let stored = rows_stored(scheme);
-    garble_front(&m, &ws, r, scheme, z, material, zeros, ones);
+    garble_front(&t, &ws, r, scheme, z, material, zeros, ones);
     let n = z.n;
     let plan = Plan {
         scheme,

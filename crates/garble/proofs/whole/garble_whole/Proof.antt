@@ -4,7 +4,7 @@ use Rattle.garble.proofs.whole.garble_whole.Statement.{statement}
 use Rattle.garble.proofs.whole.garble_whole.Tie as tie
 
 garble-front-requires : tie.Need-garble-front-requires
-garble-front-requires c κs = (c .before .before .before .before .before .before .before .before .before .before .before .before .before .before .t-tables .ensures, whole-front _ _ _ _ _ _ _ (c .before .before .before .before .before .before .before .before .before .before .before .before .before .before .before .before .before .before .before .before .before .pre))
+garble-front-requires c κs = (c .before .before .before .before .before .before .before .before .before .before .before .before .before .before .before .s-box .ensures, whole-front _ _ _ _ _ _ _ (c .before .before .before .before .before .before .before .before .before .before .before .before .before .before .before .before .before .before .before .before .before .pre))
 
 garble-body-requires : tie.Need-garble-body-requires
 garble-body-requires c κs = (
