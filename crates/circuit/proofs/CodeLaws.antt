@@ -13,11 +13,13 @@ use lib.ListN.{getD, List·getD-eq-default}
 use Rattle.model.specs.declared.Truth.{Truth}
 use Rattle.model.specs.declared.Kind as Kinds
 use Rattle.model.specs.Bytes.{tabulate}
-use Rattle.model.specs.Circuit.{Kind, charged, free, refused, kinds, kindOf, charge}
+use Rattle.model.specs.Circuit.{Kind, charged, free, refused, kinds, kindOf, charge, value}
 use Rattle.model.specs.Refusals.{isRefused}
+use Rattle.model.proofs.Bits.{Bit, b0, b1}
+use Rattle.model.proofs.Codes.{FreeTable, code-means}
 use Rattle.model.proofs.Lists.{entry}
 use Rattle.model.proofs.Table.{every, at}
-use Rattle.circuit.specs.Answers.{meaning, threeBits, lastThrees}
+use Rattle.circuit.specs.Answers.{meaning, TakesIs, threeBits, lastThrees}
 
 past-codes : (code : ℕ) → 15 < code → kindOf code ≡ refused
 unfolding kindOf kinds
@@ -92,6 +94,26 @@ module _ (code : ℕ) (k : Kinds.Kind) (is-k : meaning k ≡ kindOf code) where
 pub ruleset charge-cases = (charge-charged, charge-free, charge-refused)
 
 pub ruleset refused-cases = (charged-known, free-known, refused-known)
+
+-- ---- code_takes
+
+module _ (code : ℕ) (k : Kinds.Kind) (is-k : meaning k ≡ kindOf code) where
+  pub takes-charged : (u v x : Truth) → k ≡ Kinds.Kind.Charged u v x → TakesIs (kindOf code) 1 1
+  takes-charged u v x e = rw (← is-k, e) (record { is-a = refl; is-b = refl; bit-a = omega arith; bit-b = omega arith })
+
+  pub takes-free : (p q c : ℕ) → k ≡ Kinds.Kind.Free p q c → TakesIs (kindOf code) p q
+  takes-free p q c e =
+      let table : FreeTable (value code) p q c = rw (← is-k, e) at (code-means code) in
+      rw (← is-k, e) (record { is-a = refl; is-b = refl; bit-a = small (table .bit-p); bit-b = small (table .bit-q) })
+    where
+      small : {x : ℕ} → Bit x → x ≤ 1
+      small b0 = omega arith
+      small b1 = omega arith
+
+  pub takes-refused : k ≡ Kinds.Kind.Refused → TakesIs (kindOf code) 1 1
+  takes-refused e = rw (← is-k, e) (record { is-a = refl; is-b = refl; bit-a = omega arith; bit-b = omega arith })
+
+pub ruleset takes-cases = (takes-charged, takes-free, takes-refused)
 
 -- ---- three_bits
 

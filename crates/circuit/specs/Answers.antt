@@ -25,6 +25,23 @@ meaning (Kinds.Kind.Charged u v own) = charged (u .0) (v .0) (own .0)
 meaning (Kinds.Kind.Free p q c) = free p q c
 meaning Kinds.Kind.Refused = refused
 
+-- whether a gate of a kind takes its operands
+abbrev pub takesA : Kind → ℕ
+takesA (charged u v x) = 1
+takesA (free p q c) = p
+takesA refused = 1
+
+abbrev pub takesB : Kind → ℕ
+takesB (charged u v x) = 1
+takesB (free p q c) = q
+takesB refused = 1
+
+pub record TakesIs (k : Kind) (a b : ℕ) : Type 0 where
+  pub is-a : a ≡ takesA k
+  pub is-b : b ≡ takesB k
+  pub bit-a : a ≤ 1
+  pub bit-b : b ≤ 1
+
 -- what a kind has beside its case, as the bits of one number
 abbrev pub threeBits : Kind → ℕ
 threeBits (charged u v x) = 4 * u + 2 * v + x

@@ -3,7 +3,7 @@ ghost use mathlib.Core.Path.{_≡_};
 ghost use Prim.Native.Nat.{_+_, _*_, _≤_};
 ghost use Rattle.model.specs.Circuit.{value, kindOf, charge};
 ghost use Rattle.model.specs.Refusals.{isRefused};
-ghost use Rattle.circuit.specs.Answers.{meaning, threeBits, lastThrees};
+ghost use Rattle.circuit.specs.Answers.{meaning, TakesIs, threeBits, lastThrees};
 use model::Kind;
 use model::Truth;
 
@@ -46,6 +46,23 @@ pub fn code_refused(code: u8) -> bool
         Kind::Charged(_, _, _) => false,
         Kind::Free { p: _, q: _, c: _ } => false,
         Kind::Refused => true,
+    }
+}
+
+// Which operands a gate takes, 1 for each that it does.
+pub struct Takes {
+    pub a: u8,
+    pub b: u8,
+}
+
+// Those of a code: of a free one p and q, of a charged one both. No accepted circuit has a refused one.
+pub fn code_takes(code: u8) -> Takes
+    ensures { λ r. ⌜ TakesIs (kindOf code) (r .a) (r .b) ⌝ }
+{
+    match matched_kind(code) {
+        Kind::Charged(_, _, _) => Takes { a: 1, b: 1 },
+        Kind::Free { p, q, c: _ } => Takes { a: p, b: q },
+        Kind::Refused => Takes { a: 1, b: 1 },
     }
 }
 

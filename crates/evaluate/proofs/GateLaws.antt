@@ -6,14 +6,12 @@ use mathlib.Core.Path.{_≡_, refl, sym, ap, _∙_}
 use mathlib.Core.Bool.{false, false≢true}
 use mathlib.Core.List.{List, _∷_}
 use borrow.Author.Tests.{ne-eqb}
-use lib.ListN.{length, getD, take, drop, List·getD-eq-default}
+use lib.ListN.{length, getD, take, drop}
 use lib.Seq.{drop-drop}
-use Rattle.model.specs.Circuit.{Kind, charged, free, refused, kinds, kindOf, charge}
-use Rattle.model.specs.Bytes.{tabulate}
+use Rattle.model.specs.Circuit.{Kind, charged, free, refused, charge}
 use Rattle.model.specs.Aes.{Block, block}
 use Rattle.model.specs.Scheme.{Scheme}
 use Rattle.model.specs.Refusals.{isRefused}
-use Rattle.model.proofs.Lists.{entry}
 use Rattle.model.specs.Tokens.{colour, freeToken}
 use Rattle.model.specs.Gax.{dualKey, openRow, gax}
 use Rattle.model.specs.Gaxr.{gaxr}
@@ -21,6 +19,7 @@ use Rattle.model.specs.HalfGates.{hash, joined, half}
 use Rattle.model.specs.Garbling.{schemeOf}
 use Rattle.model.specs.Evaluation.{cut, openAt}
 use Rattle.model.proofs.Blocks.{cut-at}
+use Rattle.circuit.specs.Answers.{takesA, takesB}
 use Rattle.evaluate.specs.Gate.{RowRoom, RecordRoom, HeldRoom, HeldRow}
 
 -- row j of k rows that start at an index
@@ -126,40 +125,15 @@ pub ruleset charged-opens = (half-opens, rows-open)
 
 -- ---- a free gate's token
 
--- a free code takes both operands
-both : Kind → Kind
-both (charged u v x) = charged u v x
-both (free p q c) = free 1 1 c
-both refused = refused
-
--- computed over the sixteen codes
-takes-both : (code : ℕ) → code < 16 → both (kindOf code) ≡ kindOf code
-unfolding kindOf kinds both
-takes-both code h =
-    let all : tabulate 16 (λ k. both (kindOf k)) ≡ tabulate 16 kindOf = refl in
-    sym (entry refused 16 (λ k. both (kindOf k)) code h) ∙ ap (λ (ks : List Kind). getD ks code refused) all ∙ entry refused 16 kindOf code h
-
-module _ (code : ℕ) (known : isRefused (kindOf code) ≡ false) (none : charge (kindOf code) ≡ 0) where
-  few : code < 16
-  few = go (decLt code 16)
-    where
-      go : Dec (code < 16) → code < 16
-      go (Dec.yes h) = h
-      go (Dec.no h) =
-          let past : kindOf code ≡ refused = unfold kindOf kinds in (List·getD-eq-default kinds refused {n = code} (omega arith)) in
-          absurd (false≢true (sym (rw past at known)))
-
-  pub free-opened : (S : Scheme) (g : ℕ) (bs : List ℕ) (a b : Block) → openAt S (kindOf code) g bs a b ≡ freeToken 1 1 a b
-  unfolding openAt both
-  free-opened S g bs a b = go (kindOf code) (takes-both code few) known none
-    where
-      go : (k : Kind) → both k ≡ k → isRefused k ≡ false → charge k ≡ 0 → openAt S k g bs a b ≡ freeToken 1 1 a b
-      go (charged u v x) e l h = absurd (one h)
-        where
-          one : charge (charged u v x) ≡ 0 → ⊥
-          one i = omega arith
-      go (free p q c) e l h = ap (λ (k : Kind). openAt S k g bs a b) (sym e)
-      go refused e l h = absurd (false≢true (sym l))
+-- its own, from the operands that its code takes
+pub free-opened : (S : Scheme) (k : Kind) → isRefused k ≡ false → charge k ≡ 0 → (g : ℕ) (bs : List ℕ) (a b : Block) → openAt S k g bs a b ≡ freeToken (takesA k) (takesB k) a b
+unfolding openAt
+free-opened S (charged u v x) known none g bs a b = absurd (one none)
+  where
+    one : charge (charged u v x) ≡ 0 → ⊥
+    one i = omega arith
+free-opened S (free p q c) known none g bs a b = refl
+free-opened S refused known none g bs a b = absurd (false≢true (sym known))
 
 -- ---- calls_made
 module _ (scheme p : ℕ) where

@@ -30,6 +30,7 @@ use Rattle.model.proofs.Gates.{recordLength, open-at-wide}
 use Rattle.model.proofs.Lengths.{run-blocks}
 use Rattle.model.proofs.OneMore.{run-snoc}
 use Rattle.model.proofs.Schemes.{scheme-sound, rows-stored}
+use Rattle.circuit.specs.Answers.{TakesIs}
 use Rattle.evaluate.specs.Gate.{RecordRoom, GateRoom}
 use Rattle.evaluate.proofs.GateLaws.{free-opened}
 use Rattle.evaluate.specs.Walk.{Operands, TokenStart, TokenIs, FreeTokenIs, StepStart, WalkStart, WiresStart, S, tokensTo, recordStart, Walking}
@@ -63,11 +64,14 @@ module _ (n k : ℕ) (g : Gate) (d : List ℕ) (start : Operands n k g d) where
 
 module _ (n k : ℕ) (g : Gate) (d : List ℕ) (A B : Block) (is-A : A ≡ take 16 (drop (16 * (g .a - 1)) d)) (is-B : B ≡ take 16 (drop (16 * (g .b - 1)) d))
     (x : Block) (d′ : List ℕ) (is-d : d′ ≡ put d (16 * (n + k)) x) where
-  pub free-done : Operands n k g d → charge (kindOf (g .code)) ≡ 0 → x ≡ freeToken 1 1 A B → FreeTokenIs n k g d d′
+  pub free-done : Operands n k g d → charge (kindOf (g .code)) ≡ 0 → (a b : ℕ) → TakesIs (kindOf (g .code)) a b → x ≡ freeToken a b A B → FreeTokenIs n k g d d′
   unfolding tokenAt
-  free-done start h is-x = record {
+  free-done start h a b takes is-x = record {
     left = λ scheme s at. record {
-      token-left = is-d ∙ rw (is-x ∙ sym (free-opened (g .code) (start .known) h (schemeOf scheme) (gateWire n k) (drop at s) A B), is-A, is-B);
+      token-left =
+          let opened : x ≡ openAt (schemeOf scheme) (kindOf (g .code)) (gateWire n k) (drop at s) A B =
+          is-x ∙ rw (takes .is-a, takes .is-b) (sym (free-opened (schemeOf scheme) (kindOf (g .code)) (start .known) h (gateWire n k) (drop at s) A B)) in
+          is-d ∙ rw (opened, is-A, is-B);
       is-next = rw h (omega arith);
     };
   }

@@ -18,6 +18,7 @@ use block::load;
 use block::store;
 use buffer::copy_front;
 use circuit::code::code_charge;
+use circuit::code::code_takes;
 use circuit::gates::gate_at;
 use material::records::Cursor;
 use material::rows_stored;
@@ -26,7 +27,7 @@ use model::Wire;
 use scheme::free_token;
 
 // Gate k, from 0, of a circuit of n inputs is g, and is free: its token, which needs no material, is written after those of the wires
-// before it. Both free codes take both operands.
+// before it, from the operands that the gate takes.
 pub fn write_free(n: usize, k: usize, g: Gate, wires: &mut [u8])
     requires { ⌜ Operands n k g (now wires) ⌝ }
     requires { ⌜ charge (kindOf (g .code)) ≡ 0 ⌝ }
@@ -35,7 +36,8 @@ pub fn write_free(n: usize, k: usize, g: Gate, wires: &mut [u8])
     let place = 16 * (n + k);
     let a = load(wires, 16 * (g.a as usize - 1));
     let b = load(wires, 16 * (g.b as usize - 1));
-    store(wires, place, free_token(1, 1, a, b));
+    let takes = code_takes(g.code);
+    store(wires, place, free_token(takes.a, takes.b, a, b));
 }
 
 // The same of a charged gate, whose row record stands here.
