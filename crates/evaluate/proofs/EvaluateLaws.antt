@@ -1,26 +1,20 @@
 -- Evaluate: what the answer of its refusals tells, and what it leaves. Assumes nothing.
-use Prim.Native.Nat.{ℕ, _+_, _*_, _≤_, _<_}
-use native.Mathlib.Omega.{arith}
-use mathlib.Core.Path.{_≡_, ap}
+use Prim.Native.Nat.{ℕ, _+_, _*_}
+use mathlib.Core.Path.{_≡_}
 use mathlib.Core.List.{List}
-use lib.ListN.{length, getD}
+use lib.ListN.{length}
 use Rattle.model.specs.declared.Sizes.{Sizes}
 use Rattle.model.specs.declared.Refusal.{Refusal}
-use Rattle.model.specs.Bytes.{over}
-use Rattle.model.specs.Circuit.{circuitOf, inputs, gates, charges}
-use Rattle.model.specs.Garbling.{schemeOf}
-use Rattle.model.specs.Material.{materialLength}
-use Rattle.model.specs.Evaluation.{evaluateBytes}
+use Rattle.model.specs.Circuit.{inputs, gates}
 use Rattle.model.specs.Refusals.{fine, verdictOf, circuitVerdict}
-use Rattle.model.specs.Operations.{no, yes, sizesOf, evaluateVerdict, evaluateCallsOf, EvaluateIs}
-use Rattle.model.proofs.Calls.{calls-all}
+use Rattle.model.specs.Operations.{no, yes, sizesOf, evaluateVerdict, EvaluateIs}
 use Rattle.model.proofs.Verdicts.{Given, yes-given, Turned, no-turned, then-fine}
 use Rattle.circuit.specs.Answers.{readyOf}
 use Rattle.circuit.specs.declared.values.Ready.{Ready}
 use Rattle.material.specs.Answers.{Accepted}
-use Rattle.material.proofs.SizeLaws.{is-n, is-q, few-charges}
+use Rattle.material.proofs.SizeLaws.{is-n, is-q}
 use Rattle.evaluate.specs.Answers.{restVerdict, evaluateReady}
-use Rattle.evaluate.specs.Walk.{WiresStart}
+use Rattle.evaluate.specs.Walk.{WiresStart, WiresAre}
 use Rattle.evaluate.proofs.ReadyLaws.{RestHolds, rest-holds, evaluate-verdict}
 
 module _ (c ts s o : List ℕ) (r : Ready) (is-r : readyOf r ≡ evaluateReady c ts s (length o)) where
@@ -43,13 +37,6 @@ module _ (c ts s o : List ℕ) (r : Ready) (is-r : readyOf r ≡ evaluateReady c
     holds : RestHolds c (inputs c) ts s (16 * (inputs c + gates c)) (length o)
     holds = rest-holds c _ ts s _ _ (both .1)
 
-    pub evaluate-byte : 2 < length s
-    unfolding materialLength
-    evaluate-byte = omega (arith, holds .formed .whole)
-
-    pub evaluate-few : z .p ≤ 65535
-    evaluate-few = few-charges c z known
-
     pub evaluate-start : WiresStart c ts s (z .n) (z .q) o
     evaluate-start = record {
       tokens = rw (is-n c z known) (holds .tokens);
@@ -64,14 +51,7 @@ module _ (c ts s o : List ℕ) (r : Ready) (is-r : readyOf r ≡ evaluateReady c
       };
     }
 
-    is-p : z .p ≡ charges (circuitOf c .gates)
-    unfolding sizesOf
-    is-p = ap (λ (x : Sizes). x .p) (given .is-result)
+    pub evaluate-done : (k : ℕ) (x : List ℕ) → WiresAre c ts s o k x → EvaluateIs c ts s o (yes k) x
+    evaluate-done k x is = record { answered = rw (given .is-fine, is .calls-made); left = rw (given .is-fine) (is .left) }
 
-    pub evaluate-done : (k : ℕ) → k ≡ z .p * schemeOf (getD s 2 0) .evaluateCalls → (x : List ℕ) → x ≡ over (evaluateBytes (circuitOf c) ts s) o
-        → EvaluateIs c ts s o (yes k) x
-    unfolding evaluateCallsOf
-    evaluate-done k is-k x is-x =
-        record { answered = rw (given .is-fine, calls-all, is-k, is-p); left = rw (given .is-fine) is-x }
-
-pub ruleset evaluate-cases = (evaluate-refused, evaluate-byte, evaluate-few, evaluate-start, evaluate-done)
+pub ruleset evaluate-cases = (evaluate-refused, evaluate-start, evaluate-done)

@@ -18,8 +18,11 @@ use Rattle.model.specs.Gaxr.{gaxr}
 use Rattle.model.specs.HalfGates.{hash, joined, half}
 use Rattle.model.specs.Garbling.{schemeOf}
 use Rattle.model.specs.Evaluation.{cut, openAt}
+use Rattle.model.specs.Calls.{sealingHeld, hashingsHeld, evaluateAsks}
 use Rattle.model.proofs.Blocks.{cut-at}
 use Rattle.circuit.specs.Answers.{takesA, takesB}
+use Rattle.scheme.specs.declared.OpenedGate.{OpenedGate}
+use Rattle.scheme.specs.Garbled.{OpenedIs}
 use Rattle.evaluate.specs.Gate.{RowRoom, RecordRoom, HeldRoom, HeldRow}
 
 -- row j of k rows that start at an index
@@ -82,11 +85,18 @@ module _ (scheme at : ℕ) (s : List ℕ) (room : RecordRoom scheme at s) where
     unfolding half
     half-room-e = let r = rw three at (room .room) in omega arith
 
-    pub half-opens : (g : ℕ) (a b rg re x : Block) → rg ≡ take 16 (drop (at + 4) s) → re ≡ take 16 (drop (at + 4 + 16) s)
-        → x ≡ joined hash g rg re a b
-        → x ≡ schemeOf scheme .opened g (cut (schemeOf scheme .stored) (drop 4 (drop at s))) a b
+    asks-two : (g : ℕ) (a b : Block) → evaluateAsks scheme g a b ≡ hashingsHeld g a b
+    unfolding evaluateAsks
+    asks-two g a b = rw e
+
+    pub half-opens : (g : ℕ) (a b rg re : Block) (r : OpenedGate) → rg ≡ take 16 (drop (at + 4) s) → re ≡ take 16 (drop (at + 4 + 16) s)
+        → OpenedIs (joined hash g rg re a b) (hashingsHeld g a b) r
+        → OpenedIs (schemeOf scheme .opened g (cut (schemeOf scheme .stored) (drop 4 (drop at s))) a b) (evaluateAsks scheme g a b) r
     unfolding half cut
-    half-opens g a b rg re x is-g is-e is-x = rw (three, drop-drop 4 at s, drop-drop 16 (at + 4) s, ← is-g, ← is-e) is-x
+    half-opens g a b rg re r is-g is-e is-r = record {
+      is-token = rw (three, drop-drop 4 at s, drop-drop 16 (at + 4) s, ← is-g, ← is-e) (is-r .is-token);
+      is-calls = rw (asks-two g a b) (is-r .is-calls);
+    }
 
   module _ (n : scheme ≡ 3 → ⊥) where
     one : scheme < 2 → scheme ≡ 1
@@ -109,15 +119,31 @@ module _ (scheme at : ℕ) (s : List ℕ) (room : RecordRoom scheme at s) where
         short (Dec.yes l) = let r = long (one l) in omega arith
         short (Dec.no l) = let r = rw (is-gaxr scheme (two l)) at (room .room) in omega arith
 
-    pub rows-open : (g i : ℕ) (a b row x : Block) → i ≡ 2 * colour a + colour b → HeldRow scheme (at + 4) i s row
+    row-opens : (g i : ℕ) (a b row x : Block) → i ≡ 2 * colour a + colour b → HeldRow scheme (at + 4) i s row
         → x ≡ dualKey a b (4 * g + 2 * colour a + colour b) row
         → x ≡ schemeOf scheme .opened g (cut (schemeOf scheme .stored) (drop 4 (drop at s))) a b
     unfolding gax gaxr openRow
-    rows-open g i a b row x is-i held is-x = go (decLt scheme 2)
+    row-opens g i a b row x is-i held is-x = go (decLt scheme 2)
       where
         go : Dec (scheme < 2) → x ≡ schemeOf scheme .opened g (cut (schemeOf scheme .stored) (drop 4 (drop at s))) a b
         go (Dec.yes l) = rw (is-gax scheme (one l), drop-drop 4 at s, ← is-i, ← held .by-gax (one l)) is-x
         go (Dec.no l) = rw (is-gaxr scheme (two l), drop-drop 4 at s, ← is-i, ← held .by-gaxr (not-one l)) is-x
+
+    asks-one : (g : ℕ) (a b : Block) → evaluateAsks scheme g a b ≡ sealingHeld g a b
+    unfolding evaluateAsks
+    asks-one g a b = go (decLt scheme 2)
+      where
+        go : Dec (scheme < 2) → evaluateAsks scheme g a b ≡ sealingHeld g a b
+        go (Dec.yes l) = rw (one l)
+        go (Dec.no l) = rw (two l)
+
+    pub rows-open : (g i : ℕ) (a b row : Block) (r : OpenedGate) → i ≡ 2 * colour a + colour b → HeldRow scheme (at + 4) i s row
+        → OpenedIs (dualKey a b (4 * g + 2 * colour a + colour b) row) (sealingHeld g a b) r
+        → OpenedIs (schemeOf scheme .opened g (cut (schemeOf scheme .stored) (drop 4 (drop at s))) a b) (evaluateAsks scheme g a b) r
+    rows-open g i a b row r is-i held is-r = record {
+      is-token = row-opens g i a b row (r .token .bytes) is-i held (is-r .is-token);
+      is-calls = rw (asks-one g a b) (is-r .is-calls);
+    }
 
 pub ruleset charged-rooms = (half-room-g, half-room-e, rows-room)
 
@@ -134,19 +160,3 @@ free-opened S (charged u v x) known none g bs a b = absurd (one none)
     one i = omega arith
 free-opened S (free p q c) known none g bs a b = refl
 free-opened S refused known none g bs a b = absurd (false≢true (sym known))
-
--- ---- calls_made
-module _ (scheme p : ℕ) where
-  pub calls-gax : scheme ≡ 1 → p ≡ p * schemeOf scheme .evaluateCalls
-  unfolding gax
-  calls-gax e = rw (is-gax scheme e) (omega arith)
-
-  pub calls-gaxr : scheme ≡ 2 → p ≡ p * schemeOf scheme .evaluateCalls
-  unfolding gaxr
-  calls-gaxr e = rw (is-gaxr scheme e) (omega arith)
-
-  pub calls-half : (scheme ≡ 1 → ⊥) → (scheme ≡ 2 → ⊥) → 2 * p ≡ p * schemeOf scheme .evaluateCalls
-  unfolding half
-  calls-half h l = rw (is-half scheme h l) (omega arith)
-
-pub ruleset calls-cases = (calls-gax, calls-gaxr, calls-half)

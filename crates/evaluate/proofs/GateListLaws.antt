@@ -1,5 +1,6 @@
 -- Evaluation over a list of gate records: a law for each return of the functions of src/list.rt. Assumes nothing.
 use Prim.Native.Nat.{ℕ, zero, suc, _+_, _*_, _≤_, _<_, _^_}
+use native.Mathlib.Nat.{mul-le-mul}
 use native.Mathlib.Numerals.{add-one}
 use native.Mathlib.Decide.{decLt}
 use native.Mathlib.Omega.{arith}
@@ -19,15 +20,17 @@ use Rattle.model.specs.declared.Refusal.the-variants.{Limits, TokensLength, Row
 use Rattle.model.specs.declared.Ran.{Ran}
 use Rattle.model.specs.declared.Evaluated.{Evaluated}
 use Rattle.model.specs.Bytes.{be16, over}
-use Rattle.model.specs.Circuit.{circuitOf, inputs, gates, gateAt, markAt, kindOf, charge, sizesHold}
+use Rattle.model.specs.Circuit.{circuitOf, inputs, gates, gateAt, gateWire, markAt, kindOf, charge, sizesHold}
 use Rattle.aes.specs.Tables.{IsTTables}
 use Rattle.model.specs.Aes.{keyExpansion, fixedKey}
 use Rattle.model.specs.Garbling.{schemeOf}
 use Rattle.model.specs.Material.{rowsStored}
+use Rattle.model.specs.Evaluation.{tokenAt}
 use Rattle.model.specs.Refusals.{fine, refused, refuse, _then_, firstOf, numberOf, placeOf, verdictOf, headVerdict, gateVerdict, recordVerdict, gatesVerdict, circuitVerdict, tokensVerdict, fileVerdict, materialVerdict, roomVerdict, rowRecordAt}
 use Rattle.model.specs.Operations.{sizesOf, ranOf, evaluatedOf, evaluateVerdict, EvaluateIs}
 use Rattle.model.proofs.Lists.{tabulate-snoc}
 use Rattle.model.proofs.Circuits.{charge-le, charges-snoc}
+use Rattle.model.proofs.Calls.{asked-few, evaluate-calls-at}
 use Rattle.model.proofs.Verdicts.{then-fine, refuse-fine, and-both, Given, yes-given, Turned, no-turned, first-next, first-found}
 use Rattle.circuit.specs.declared.gates.GateRead.{GateRead}
 use Rattle.circuit.specs.declared.values.Ready.{Ready}
@@ -82,7 +85,7 @@ module _ (n m q : ℕ) (s : List ℕ) (r : Walk) where
     begun-limits h = limited (rw (le-leb _ _ few, ← is-b, not-true b h))
 
     pub begun-first : not b ≡ false → (here : Cursor) → here .at ≡ 9 → (rows : ℕ) → rows ≡ rowsStored (getD s 2 0)
-        → GoesTo 0 0 (record { n = n; m = m; q = q; p = 0 }) here rows r → Begun n m q s r
+        → GoesTo 0 0 (record { n = n; m = m; q = q; p = 0 }) here rows 0 r → Begun n m q s r
     begun-first h here at rows is-rows g = record {
       goes = λ _. let e : here ≡ record { at = 9 } = ap (λ (x : ℕ). record { at = x }) at in rw (← e, ← is-rows) g;
       stops = λ e. neither e (rw (le-leb _ _ few, ← is-b, not-false b h));
@@ -111,7 +114,7 @@ module _ (c ts s o : List ℕ) (left : ℕ) (w : Walk) (d : List ℕ) where
 
   -- it goes on, in one of the passes
   module _ (k : ℕ) (z : Sizes) (here : Cursor) (rows : ℕ) (is-rows : rows ≡ rowsStored (getD s 2 0)) (more : k < gates c) where
-    pub goes-0 : GoesTo 0 k z here rows w → Tried c s o left k z (here .at) d → Stands c ts s o left w d
+    pub goes-0 : GoesTo 0 k z here rows 0 w → Tried c s o left k z (here .at) d → Stands c ts s o left w d
     goes-0 g t = record {
       passes = omega (arith, g .is-pass);
       more = λ _. rw (g .is-k) more;
@@ -122,7 +125,7 @@ module _ (c ts s o : List ℕ) (left : ℕ) (w : Walk) (d : List ℕ) where
       ended = λ e. absurd (omega (arith, g .is-pass));
     }
 
-    goes-1 : GoesTo 1 k z here rows w → Checked c ts s o left k z (here .at) d → Stands c ts s o left w d
+    goes-1 : GoesTo 1 k z here rows 0 w → Checked c ts s o left k z (here .at) d → Stands c ts s o left w d
     goes-1 g t = record {
       passes = omega (arith, g .is-pass);
       more = λ _. rw (g .is-k) more;
@@ -133,14 +136,14 @@ module _ (c ts s o : List ℕ) (left : ℕ) (w : Walk) (d : List ℕ) where
       ended = λ e. absurd (omega (arith, g .is-pass));
     }
 
-    goes-2 : GoesTo 2 k z here rows w → Written c ts s o left k z (here .at) d → Stands c ts s o left w d
-    goes-2 g t = record {
+    goes-2 : (calls : ℕ) → GoesTo 2 k z here rows calls w → Written c ts s o left k z (here .at) calls d → Stands c ts s o left w d
+    goes-2 calls g t = record {
       passes = omega (arith, g .is-pass);
       more = λ _. rw (g .is-k) more;
       rows = λ _. g .is-rows ∙ is-rows;
       pass-0 = λ e. absurd (omega (arith, g .is-pass));
       pass-1 = λ e. absurd (omega (arith, g .is-pass));
-      pass-2 = λ _. rw (g .is-k, g .is-z, g .is-here) t;
+      pass-2 = λ _. rw (g .is-k, g .is-z, g .is-here, g .is-calls) t;
       ended = λ e. absurd (omega (arith, g .is-pass));
     }
 
@@ -316,7 +319,7 @@ all-tried c s o d left k z at t h =
     }
 
 module _ (ts s : List ℕ) (k : ℕ) (z : Sizes) (here there : Cursor) (rows : ℕ) (is-rows : rows ≡ rowsStored (getD s 2 0)) (r : Walk) where
-  pub tried-next : k + 1 < z .q → GoesTo 0 (k + 1) z there rows r → TriedLeads ts s k z (here .at) (there .at) r
+  pub tried-next : k + 1 < z .q → GoesTo 0 (k + 1) z there rows 0 r → TriedLeads ts s k z (here .at) (there .at) r
   tried-next h g = record {
     kept = λ _. ap (λ (x : Cursor). x .at) (g .is-here);
     starts = λ _ e. absurd (omega (arith, g .is-pass));
@@ -348,7 +351,7 @@ module _ (ts s : List ℕ) (k : ℕ) (z : Sizes) (here there : Cursor) (rows : �
 
       module _ (i : u ≡ Ran.Done) where
         -- to a gate whose row record is due at an index, those before it right
-        to-record : (j : ℕ) (at : Cursor) → GoesTo 1 j z at rows r → j ≤ k → ((here .at ≡ 0 → ⊥) → j ≡ k) → ((c : List ℕ) → Guessed c s k (here .at) → Filed c z s → RowsRight c s j (at .at))
+        to-record : (j : ℕ) (at : Cursor) → GoesTo 1 j z at rows 0 r → j ≤ k → ((here .at ≡ 0 → ⊥) → j ≡ k) → ((c : List ℕ) → Guessed c s k (here .at) → Filed c z s → RowsRight c s j (at .at))
             → TriedLeads ts s k z (here .at) (there .at) r
         to-record j at g low start right = record {
           kept = λ p. absurd (omega (arith, g .is-pass));
@@ -367,11 +370,11 @@ module _ (ts s : List ℕ) (k : ℕ) (z : Sizes) (here there : Cursor) (rows : �
         }
 
         -- the first, or the last
-        pub tried-first : here .at ≡ 0 → (first : Cursor) → first .at ≡ 9 → GoesTo 1 0 z first rows r → TriedLeads ts s k z (here .at) (there .at) r
+        pub tried-first : here .at ≡ 0 → (first : Cursor) → first .at ≡ 9 → GoesTo 1 0 z first rows 0 r → TriedLeads ts s k z (here .at) (there .at) r
         tried-first none first at g =
             to-record 0 first g (omega arith) (λ n. absurd (n none)) (λ c _ _. (record { no-fault = unfold firstOf in refl; placed = at ∙ sym (row-first c s) }))
 
-        pub tried-last : (here .at ≡ 0 → ⊥) → GoesTo 1 k z here rows r → TriedLeads ts s k z (here .at) (there .at) r
+        pub tried-last : (here .at ≡ 0 → ⊥) → GoesTo 1 k z here rows 0 r → TriedLeads ts s k z (here .at) (there .at) r
         tried-last n g = to-record k here g (omega arith) (λ _. refl) (λ c before known. before .rows n (rw (known .circuit .sizes) at known))
 
 pub ruleset tried-cases = (tried-next, tried-tokens, tried-file, tried-first, tried-last)
@@ -466,7 +469,7 @@ pub ruleset try-cases = (try-counts, try-fits, try-few, try-fine, try-fault)
 -- ---- record_checked
 
 module _ (ts s : List ℕ) (k : ℕ) (z : Sizes) (there : Cursor) (rows : ℕ) (asked : Checks ts s k z rows (there .at)) (d : List ℕ) (r : Walk) where
-  pub checked-next : k + 1 < z .q → GoesTo 1 (k + 1) z there rows r → CheckedLeads ts s k z (there .at) d r d
+  pub checked-next : k + 1 < z .q → GoesTo 1 (k + 1) z there rows 0 r → CheckedLeads ts s k z (there .at) d r d
   checked-next h g = record {
     on = omega (arith, g .is-pass);
     leads = λ c o left t. goes-1 c ts s o left r d (k + 1) z there rows (asked .is-rows) (omega (arith, is-q c z (t .known .circuit))) g t;
@@ -499,7 +502,7 @@ module _ (ts s : List ℕ) (k : ℕ) (z : Sizes) (there : Cursor) (rows : ℕ) (
             refuses c ts s o left r d (Room (16 * (z .n + z .q))) e (t .untouched) (rw (is-n c z k, is-q c z k) v);
       }
 
-      pub checked-all : 16 * (z .n + z .q) ≤ length d → (d′ : List ℕ) → d′ ≡ over ts d → (here : Cursor) → here .at ≡ 9 → GoesTo 2 0 z here rows r
+      pub checked-all : 16 * (z .n + z .q) ≤ length d → (d′ : List ℕ) → d′ ≡ over ts d → (here : Cursor) → here .at ≡ 9 → GoesTo 2 0 z here rows 0 r
           → CheckedLeads ts s k z (there .at) d r d′
       checked-all h d′ is-d here at g = record {
         on = omega (arith, g .is-pass);
@@ -508,7 +511,7 @@ module _ (ts s : List ℕ) (k : ℕ) (z : Sizes) (there : Cursor) (rows : ℕ) (
             let fit = verdict-fine c ts s (length o) (k .accepted) (t .tokens) (rw i at (all-checked c o left t))
             (rw (← is-n c z k, ← is-q c z k, ← t .untouched) h) in
             let sizes = limits c z k .sizes in
-            goes-2 c ts s o left r d′ 0 z here rows (asked .is-rows) (omega (arith, sizes .m-low, sizes .m-high)) g
+            goes-2 c ts s o left r d′ 0 z here rows (asked .is-rows) (omega (arith, sizes .m-low, sizes .m-high)) 0 g
             (record {
               sizes = k .sizes;
               fit = fit;
@@ -604,15 +607,15 @@ pub ruleset check-asks = (free-asks, charged-asks, charged-fits, charged-past)
 pub ruleset check-cases = (free-passed, charged-wrong, charged-right)
 
 -- ---- token_written
-module _ (scheme k : ℕ) (z : Sizes) (there : Cursor) (rows : ℕ) (r : Walk) where
-  pub onward-more : k + 1 < z .q → GoesTo 2 (k + 1) z there rows r → Onward scheme k z there rows r
+module _ (k : ℕ) (z : Sizes) (there : Cursor) (rows calls : ℕ) (r : Walk) where
+  pub onward-more : k + 1 < z .q → GoesTo 2 (k + 1) z there rows calls r → Onward k z there rows calls r
   onward-more h goes = record { goes = λ l. goes; stops = λ l. absurd (not-both l) }
     where
       not-both : z .q ≤ k + 1 → ⊥
       not-both l = omega arith
 
-  pub onward-last : z .q ≤ k + 1 → (calls : ℕ) → calls ≡ z .p * schemeOf scheme .evaluateCalls → Ended (Evaluated.Done calls) r → Onward scheme k z there rows r
-  onward-last h calls is-calls e = record { goes = λ l. absurd (not-both l); stops = λ l. rw (← is-calls) e }
+  pub onward-last : z .q ≤ k + 1 → Ended (Evaluated.Done calls) r → Onward k z there rows calls r
+  onward-last h e = record { goes = λ l. absurd (not-both l); stops = λ l. e }
     where
       not-both : k + 1 < z .q → ⊥
       not-both l = omega arith
@@ -620,40 +623,40 @@ module _ (scheme k : ℕ) (z : Sizes) (there : Cursor) (rows : ℕ) (r : Walk) w
 pub ruleset onward-cases = (onward-more, onward-last)
 
 -- ---- write_next
-module _ (s : List ℕ) (w : Walk) (g : Gate) (d d′ : List ℕ) (there : Cursor)
-    (is : TokenIs (getD s 2 0) (w .z .n) (w .k) g s (w .here .at) d (there .at) d′) (is-rows : w .rows ≡ rowsStored (getD s 2 0)) (r : Walk) where
+module _ (s : List ℕ) (w : Walk) (g : Gate) (d d′ : List ℕ) (there : Cursor) (made : ℕ)
+    (is : TokenIs (getD s 2 0) (w .z .n) (w .k) g s (w .here .at) d (there .at) made d′) (is-rows : w .rows ≡ rowsStored (getD s 2 0)) (r : Walk) where
   -- one more token is written
-  one-more : (c ts o : List ℕ) (left : ℕ) → w .k < gates c → GateIs c (w .k) g → Written c ts s o (suc left) (w .k) (w .z) (w .here .at) d
-      → Walking c s (inputs c) (gates c) (over ts o) (w .k + 1) (there .at) d′
+  one-more : (c ts o : List ℕ) (left : ℕ) → w .k < gates c → GateIs c (w .k) g → Written c ts s o (suc left) (w .k) (w .z) (w .here .at) (w .calls) d
+      → Walking c s (inputs c) (gates c) (over ts o) (w .k + 1) (there .at) (w .calls + made) d′
   one-more c ts o left h gate t =
       let known = accepted-by c ts s o (w .z) (t .sizes) (t .fit) in
       let step = rw (gate .is-g, is-n c (w .z) known) at is in
-      walk-turn c s _ _ (over ts o) (wires-walk c ts s _ _ o (wires c ts s o (w .z) known (t .fit)) (over ts o) refl) (w .k) (w .here .at) d (t .so-far) h
-      (there .at) d′ step
+      walk-turn c s _ _ (over ts o) (wires-walk c ts s _ _ o (wires c ts s o (w .z) known (t .fit)) (over ts o) refl) (w .k) (w .here .at) (w .calls) d (t .so-far) h
+      (there .at) made d′ step
 
-  write-more : w .k + 1 < w .z .q → GoesTo 2 (w .k + 1) (w .z) there (w .rows) r → WriteLeads s w g d r d′
+  write-more : w .k + 1 < w .z .q → GoesTo 2 (w .k + 1) (w .z) there (w .rows) (w .calls + made) r → WriteLeads s w g d r d′
   write-more h goes = record {
     on = omega (arith, goes .is-pass);
     leads = λ c ts o left more gate t.
         let known = accepted-by c ts s o (w .z) (t .sizes) (t .fit) in
-        goes-2 c ts s o left r d′ (w .k + 1) (w .z) there (w .rows) is-rows (omega (arith, is-q c (w .z) known)) goes
+        goes-2 c ts s o left r d′ (w .k + 1) (w .z) there (w .rows) is-rows (omega (arith, is-q c (w .z) known)) (w .calls + made) goes
         (record { sizes = t .sizes; fit = t .fit; so-far = one-more c ts o left more gate t; turns = omega (arith, t .turns) });
   }
 
-  write-last : w .z .q ≤ w .k + 1 → Ended (Evaluated.Done (w .z .p * schemeOf (getD s 2 0) .evaluateCalls)) r → WriteLeads s w g d r d′
+  write-last : w .z .q ≤ w .k + 1 → Ended (Evaluated.Done (w .calls + made)) r → WriteLeads s w g d r d′
   write-last h e = record {
     on = omega (arith, e .over);
     leads = λ c ts o left more gate t.
         let known = accepted-by c ts s o (w .z) (t .sizes) (t .fit) in
         let start = wires c ts s o (w .z) known (t .fit) in
-        let all = walk-end c s _ _ (over ts o) (wires-walk c ts s _ _ o start (over ts o) refl) (w .k + 1) (there .at) d′ (one-more c ts o left more gate t)
+        let all = walk-end c s _ _ (over ts o) (wires-walk c ts s _ _ o start (over ts o) refl) (w .k + 1) (there .at) (w .calls + made) d′ (one-more c ts o left more gate t)
         (omega (arith, is-q c (w .z) known)) in
-        let left-is = wires-done c ts s _ _ o start (over ts o) refl d′ all in
+        let are = wires-done c ts s _ _ o start (over ts o) refl (w .calls + made) d′ all in
         ends c ts s o left r d′ (e .over)
-        (rw (e .answered) (evaluate-done c ts s o (Ready.Go (w .z)) (rw (t .fit, ← t .sizes)) (w .z) refl _ refl d′ left-is));
+        (rw (e .answered) (evaluate-done c ts s o (Ready.Go (w .z)) (rw (t .fit, ← t .sizes)) (w .z) refl _ d′ are));
   }
 
-  write-on : Onward (getD s 2 0) (w .k) (w .z) there (w .rows) r → WriteLeads s w g d r d′
+  write-on : Onward (w .k) (w .z) there (w .rows) (w .calls + made) r → WriteLeads s w g d r d′
   write-on next = go (decLt (w .k + 1) (w .z .q))
     where
       go : Dec (w .k + 1 < w .z .q) → WriteLeads s w g d r d′
@@ -662,9 +665,11 @@ module _ (s : List ℕ) (w : Walk) (g : Gate) (d d′ : List ℕ) (there : Curso
 
 module _ (t k s d : List ℕ) (w : Walk) (g : Gate) (asked : Writes t k s d w g) where
   -- the same after a gate that is not charged
-  pub write-on-free : (d′ : List ℕ) → FreeTokenIs (w .z .n) (w .k) g d d′ → (r : Walk) → Onward (getD s 2 0) (w .k) (w .z) (w .here) (w .rows) r
+  pub write-on-free : (d′ : List ℕ) → FreeTokenIs (w .z .n) (w .k) g d d′ → (r : Walk) → Onward (w .k) (w .z) (w .here) (w .rows) (w .calls) r
       → WriteLeads s w g d r d′
-  write-on-free d′ is r next = write-on s w g d d′ (w .here) (is .left (getD s 2 0) s (w .here .at)) (asked .is-rows) r next
+  write-on-free d′ is r next =
+      let e : w .calls + 0 ≡ w .calls = omega arith in
+      write-on s w g d d′ (w .here) 0 (is .left (getD s 2 0) s (w .here .at)) (asked .is-rows) r (rw e next)
 
   -- and after a charged one
   module _ (h : charge (kindOf (g .code)) ≡ 1) where
@@ -676,13 +681,28 @@ module _ (t k s d : List ℕ) (w : Walk) (g : Gate) (asked : Writes t k s d w g)
         let e = past-is (getD s 2 0) (w .here .at) s write-room (w .rows) (asked .is-rows) (w .here .at + 4 + 16 * w .rows) refl in
         omega (arith, e, write-room .room)
 
-    pub write-on-charged : (there : Cursor) → there .at ≡ w .here .at + 4 + 16 * w .rows → (d′ : List ℕ)
-        → TokenIs (getD s 2 0) (w .z .n) (w .k) g s (w .here .at) d (w .here .at + (4 + 16 * schemeOf (getD s 2 0) .stored)) d′ → (r : Walk)
-        → Onward (getD s 2 0) (w .k) (w .z) there (w .rows) r → WriteLeads s w g d r d′
-    write-on-charged there e d′ is r next =
-        write-on s w g d d′ there (rw (past-is (getD s 2 0) (w .here .at) s write-room (w .rows) (asked .is-rows) (there .at) e) is) (asked .is-rows) r next
+    -- no count overflows
+    pub write-calls : (next made : ℕ) (d′ : List ℕ) → TokenIs (getD s 2 0) (w .z .n) (w .k) g s (w .here .at) d next made d′ → Fits w64 (w .calls + made)
+    write-calls next made d′ is =
+        let a = tokenAt d (g .a) in
+        let b = tokenAt d (g .b) in
+        omega (
+          arith,
+          asked .few-calls,
+          asked .few .more,
+          asked .few .wires,
+          is .calls-made,
+          evaluate-calls-at (getD s 2 0) (kindOf (g .code)) (gateWire (w .z .n) (w .k)) a b,
+          mul-le-mul (charge-le (kindOf (g .code))) (asked-few (getD s 2 0)),
+        )
 
-pub ruleset write-cases = (write-on-free, write-room, write-fits, write-on-charged, charge-cases)
+    pub write-on-charged : (there : Cursor) → there .at ≡ w .here .at + 4 + 16 * w .rows → (made : ℕ) (d′ : List ℕ)
+        → TokenIs (getD s 2 0) (w .z .n) (w .k) g s (w .here .at) d (w .here .at + (4 + 16 * schemeOf (getD s 2 0) .stored)) made d′ → (r : Walk)
+        → Onward (w .k) (w .z) there (w .rows) (w .calls + made) r → WriteLeads s w g d r d′
+    write-on-charged there e made d′ is r next =
+        write-on s w g d d′ there made (rw (past-is (getD s 2 0) (w .here .at) s write-room (w .rows) (asked .is-rows) (there .at) e) is) (asked .is-rows) r next
+
+pub ruleset write-cases = (write-on-free, write-room, write-fits, write-calls, write-on-charged, charge-cases)
 
 -- what is lent
 module _ (t k s d : List ℕ) (w : Walk) (g : Gate) (asked : Writes t k s d w g) where

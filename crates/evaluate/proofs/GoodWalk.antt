@@ -27,7 +27,7 @@ use Rattle.material.proofs.RowLaws.{row-first, row-room, file-holds}
 use Rattle.evaluate.specs.declared.list.Walk.{Walk}
 use Rattle.evaluate.specs.GateList.{Lent, Ended, GoesTo, Begun, GateIs, Stands, Few, Tries, Checks, Writes, TryLeads, CheckLeads, WriteLeads}
 use Rattle.evaluate.proofs.ReadyLaws.{evaluate-verdict}
-use Rattle.evaluate.proofs.WalkLaws.{walk-step, step-token, wires-walk}
+use Rattle.evaluate.proofs.WalkLaws.{walk-few, walk-step, step-token, wires-walk}
 use Rattle.evaluate.proofs.GateListLaws.{neither, goes-0, refuses, accepted-by, wires}
 
 -- ---- by the pass
@@ -90,11 +90,12 @@ module _ (c ts s o : List ℕ) (left : ℕ) (w : Walk) (d : List ℕ) (st : Stan
         let known = accepted-by c ts s o (w .z) (u .sizes) (u .fit) in
         let go : w .pass ≤ 2 = omega (arith, e) in
         let start = wires-walk c ts s _ _ o (wires c ts s o (w .z) known (u .fit)) (B.over ts o) refl in
-        let step = walk-step c s _ _ (B.over ts o) start (w .k) (w .here .at) d (u .so-far) (st .more go) in
+        let step = walk-step c s _ _ (B.over ts o) start (w .k) (w .here .at) (w .calls) d (u .so-far) (st .more go) in
         record {
           lent = lent;
           few = few-accepted go known;
           is-rows = st .rows go;
+          few-calls = walk-few c s _ _ (B.over ts o) start (w .k) (w .here .at) (w .calls) d (u .so-far);
           header = omega (arith, start .whole);
           start = rw (is-n c (w .z) known) (step-token (getD s 2 0) c (inputs c) (w .k) s (w .here .at) d step g (is .is-g));
         }
@@ -140,7 +141,7 @@ module _ (n m : ℕ) (gs : List Gate) (ts s o : List ℕ) where
 
     -- the limits hold, or they do not
     starts : length gs ≤ 65535 → sizesHold n m (length gs) ≡ true → (w : Walk)
-        → GoesTo 0 0 (record { n = n; m = m; q = length gs; p = 0 }) (record { at = 9 }) (rowsStored (getD s 2 0)) w → Stands (circuitBytes n m gs) ts s o (3 * length gs) w o
+        → GoesTo 0 0 (record { n = n; m = m; q = length gs; p = 0 }) (record { at = 9 }) (rowsStored (getD s 2 0)) 0 w → Stands (circuitBytes n m gs) ts s o (3 * length gs) w o
     unfolding refuse firstOf charges
     starts h e w g =
         let head : headVerdict (circuitBytes n m gs) ≡ fine = rw e at (head-is h) in

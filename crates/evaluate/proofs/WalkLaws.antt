@@ -1,14 +1,14 @@
 -- The walk over the gates: one gate's token, and the invariant of the loop. Assumes nothing.
 use Prim.Native.Nat.{ℕ, suc, _+_, _*_, _-_, _≤_, _<_}
-use native.Mathlib.Nat.{add-mul, mul-le-mul-right}
+use native.Mathlib.Nat.{add-mul, mul-le-mul, mul-le-mul-right, zero-mul}
 use native.Mathlib.Numerals.{add-one}
 use native.Mathlib.Omega.{arith}
-use mathlib.Core.Path.{_≡_, refl, sym, ap, _∙_}
+use mathlib.Core.Path.{_≡_, refl, sym, ap, ap₂, _∙_}
 use mathlib.Core.Bool.{false}
 use mathlib.Core.List.{List, [], _∷_, _++_}
 use lib.ListN.{length, getD, take, drop, take-append-drop}
 use lib.Seq.{drop-drop, length-take-le, take-at}
-use mir.Syntax.{w16}
+use mir.Syntax.{w16, w64}
 use mir.Val.{Fits}
 use Rattle.model.specs.declared.Gate.{Gate}
 use Rattle.model.specs.Bytes.{tabulate, over, put}
@@ -19,21 +19,26 @@ use Rattle.model.specs.Garbling.{schemeOf}
 use Rattle.model.specs.Tokens.{freeToken}
 use Rattle.model.specs.Material.{joinBlocks, materialLength, rowsStored}
 use Rattle.model.specs.Evaluation.{cut, openAt, openStep, run, evaluate, evaluateBytes, tokenAt}
+use Rattle.model.specs.Calls.{evaluateAsks, evaluateCallsAt, evaluateCalls}
+use Rattle.model.specs.Operations.{evaluateCallsOf}
 use Rattle.model.specs.Refusals.{isRefused}
 use Rattle.model.proofs.Codes.{Used, used-charged, used-free}
 use Rattle.model.proofs.Accepted.{HeaderHolds, GateHolds, accepted-header, accepted-gate}
 use Rattle.model.proofs.Lists.{tabulate-snoc, tabulate-length}
 use Rattle.model.proofs.Buffers.{over-length, over-over, over-put, put-length}
 use Rattle.model.proofs.Blocks.{Blocks, blocks-length, join-length, join-snoc, cut-blocks, cut-take, join-cut, token-at-front}
-use Rattle.model.proofs.Circuits.{charges-snoc, charges-among}
+use Rattle.model.proofs.Circuits.{charge-le, charges-le, charges-snoc, charges-among}
+use Rattle.model.proofs.Calls.{askedHeld, asked-few, evaluate-calls-at, evaluate-calls-all, evaluate-calls-snoc}
 use Rattle.model.proofs.Gates.{recordLength, open-at-wide}
 use Rattle.model.proofs.Lengths.{run-blocks}
 use Rattle.model.proofs.OneMore.{run-snoc}
 use Rattle.model.proofs.Schemes.{scheme-sound, rows-stored}
 use Rattle.circuit.specs.Answers.{TakesIs}
+use Rattle.scheme.specs.declared.OpenedGate.{OpenedGate}
+use Rattle.scheme.specs.Garbled.{OpenedIs}
 use Rattle.evaluate.specs.Gate.{RecordRoom, GateRoom}
 use Rattle.evaluate.proofs.GateLaws.{free-opened}
-use Rattle.evaluate.specs.Walk.{Operands, TokenStart, TokenIs, FreeTokenIs, StepStart, WalkStart, WiresStart, S, tokensTo, recordStart, Walking}
+use Rattle.evaluate.specs.Walk.{Operands, TokenStart, TokenIs, FreeTokenIs, StepStart, WalkStart, WiresStart, S, tokensTo, recordStart, Walking, WalkedIs, WiresAre}
 
 -- a charged gate's token, by its scheme
 charged-opens : (S : Scheme) (k : Kind) → charge k ≡ 1 → (g : ℕ) (bs : List ℕ) (A B : Block) → openAt S k g bs A B ≡ S .opened g (cut (S .stored) (drop 4 bs)) A B
@@ -47,6 +52,23 @@ charged-opens S refused h g bs A B = absurd (not-one h)
   where
     not-one : charge refused ≡ 1 → ⊥
     not-one l = omega arith
+
+-- and its calls
+charged-calls : (scheme : ℕ) (k : Kind) → charge k ≡ 1 → (g : ℕ) (A B : Block) → evaluateCallsAt scheme k g A B ≡ length (evaluateAsks scheme g A B)
+unfolding evaluateCallsAt
+charged-calls scheme (charged u v x) h g A B = refl
+charged-calls scheme (free p q c) h g A B = absurd (not-one h)
+  where
+    not-one : charge (free p q c) ≡ 1 → ⊥
+    not-one l = omega arith
+charged-calls scheme refused h g A B = absurd (not-one h)
+  where
+    not-one : charge refused ≡ 1 → ⊥
+    not-one l = omega arith
+
+-- a free gate has none
+free-calls : (scheme : ℕ) (k : Kind) → charge k ≡ 0 → (g : ℕ) (A B : Block) → 0 ≡ evaluateCallsAt scheme k g A B
+free-calls scheme k h g A B = sym (evaluate-calls-at scheme k g A B ∙ rw (h, zero-mul))
 
 -- ---- write_free and write_charged
 module _ (n k : ℕ) (g : Gate) (d : List ℕ) (start : Operands n k g d) where
@@ -63,26 +85,28 @@ module _ (n k : ℕ) (g : Gate) (d : List ℕ) (start : Operands n k g d) where
   token-load-b = omega (arith, start .order, start .b-high, start .token-room)
 
 module _ (n k : ℕ) (g : Gate) (d : List ℕ) (A B : Block) (is-A : A ≡ take 16 (drop (16 * (g .a - 1)) d)) (is-B : B ≡ take 16 (drop (16 * (g .b - 1)) d))
-    (x : Block) (d′ : List ℕ) (is-d : d′ ≡ put d (16 * (n + k)) x) where
-  pub free-done : Operands n k g d → charge (kindOf (g .code)) ≡ 0 → (a b : ℕ) → TakesIs (kindOf (g .code)) a b → x ≡ freeToken a b A B → FreeTokenIs n k g d d′
+    (d′ : List ℕ) where
+  pub free-done : (x : Block) → d′ ≡ put d (16 * (n + k)) x → Operands n k g d → charge (kindOf (g .code)) ≡ 0 → (a b : ℕ) → TakesIs (kindOf (g .code)) a b → x ≡ freeToken a b A B → FreeTokenIs n k g d d′
   unfolding tokenAt
-  free-done start h a b takes is-x = record {
+  free-done x is-d start h a b takes is-x = record {
     left = λ scheme s at. record {
       token-left =
           let opened : x ≡ openAt (schemeOf scheme) (kindOf (g .code)) (gateWire n k) (drop at s) A B =
           is-x ∙ rw (takes .is-a, takes .is-b) (sym (free-opened (schemeOf scheme) (kindOf (g .code)) (start .known) h (gateWire n k) (drop at s) A B)) in
           is-d ∙ rw (opened, is-A, is-B);
       is-next = rw h (omega arith);
+      calls-made = free-calls scheme (kindOf (g .code)) h _ _ _;
     };
   }
 
-  pub charged-done : (scheme : ℕ) (s : List ℕ) (at : ℕ) → charge (kindOf (g .code)) ≡ 1
-      → x ≡ schemeOf scheme .opened (n + k + 1) (cut (schemeOf scheme .stored) (drop 4 (drop at s))) A B
-      → TokenIs scheme n k g s at d (at + (4 + 16 * schemeOf scheme .stored)) d′
+  pub charged-done : (scheme : ℕ) (s : List ℕ) (at : ℕ) → charge (kindOf (g .code)) ≡ 1 → (r : OpenedGate) → d′ ≡ put d (16 * (n + k)) (r .token .bytes)
+      → OpenedIs (schemeOf scheme .opened (n + k + 1) (cut (schemeOf scheme .stored) (drop 4 (drop at s))) A B) (evaluateAsks scheme (n + k + 1) A B) r
+      → TokenIs scheme n k g s at d (at + (4 + 16 * schemeOf scheme .stored)) (r .calls) d′
   unfolding tokenAt
-  charged-done scheme s at h is-x = record {
-    token-left = is-d ∙ rw (is-x ∙ sym (charged-opens (schemeOf scheme) (kindOf (g .code)) h (gateWire n k) (drop at s) A B), is-A, is-B);
+  charged-done scheme s at h r is-d is-r = record {
+    token-left = is-d ∙ rw (is-r .is-token ∙ sym (charged-opens (schemeOf scheme) (kindOf (g .code)) h (gateWire n k) (drop at s) A B), is-A, is-B);
     is-next = rw h (omega arith);
+    calls-made = is-r .is-calls ∙ sym (charged-calls scheme (kindOf (g .code)) h (gateWire n k) A B) ∙ rw (is-A, is-B);
   }
 
 pub ruleset token-cases = (token-own, token-low-b, token-load-a, token-load-b, free-done, charged-done)
@@ -132,13 +156,13 @@ module _ (scheme : ℕ) (c : List ℕ) (n k : ℕ) (s : List ℕ) (at : ℕ) (d 
   pub step-room : (g : Gate) → g ≡ gateAt c k → charge (kindOf (g .code)) ≡ 1 → RecordRoom scheme at s
   step-room g is-g h = charged-room scheme (g .code) at s (step-token g is-g .record-room) h
 
-  pub step-free : (g : Gate) → g ≡ gateAt c k → (d′ : List ℕ) → FreeTokenIs n k g d d′ → TokenIs scheme n k (gateAt c k) s at d at d′
+  pub step-free : (g : Gate) → g ≡ gateAt c k → (d′ : List ℕ) → FreeTokenIs n k g d d′ → TokenIs scheme n k (gateAt c k) s at d at 0 d′
   step-free g is-g d′ t = rw (← is-g) (t .left scheme s at)
 
   module _ (g : Gate) (is-g : g ≡ gateAt c k) (h : charge (kindOf (g .code)) ≡ 1) (rows : ℕ) (is-rows : rows ≡ rowsStored scheme) where
-    pub step-charged : (next : ℕ) → next ≡ at + 4 + 16 * rows → (d′ : List ℕ) → TokenIs scheme n k g s at d (at + (4 + 16 * schemeOf scheme .stored)) d′
-        → TokenIs scheme n k (gateAt c k) s at d next d′
-    step-charged next e d′ t = rw (past-is scheme at s (step-room g is-g h) rows is-rows next e, ← is-g) t
+    pub step-charged : (next : ℕ) → next ≡ at + 4 + 16 * rows → (calls : ℕ) (d′ : List ℕ) → TokenIs scheme n k g s at d (at + (4 + 16 * schemeOf scheme .stored)) calls d′
+        → TokenIs scheme n k (gateAt c k) s at d next calls d′
+    step-charged next e calls d′ t = rw (past-is scheme at s (step-room g is-g h) rows is-rows next e, ← is-g) t
 
 -- a charge that is not 0 is 1
 pub step-one : (k : Kind) (x : ℕ) → x ≡ charge k → (x ≡ 0 → ⊥) → charge k ≡ 1
@@ -188,22 +212,30 @@ module _ (c s : List ℕ) (n q : ℕ) (o : List ℕ) (start : WalkStart c s n q 
   unfolding materialLength
   walk-scheme = omega (arith, start .whole)
 
-  pub walk-start : (at : ℕ) → at ≡ 9 → Walking c s n q o 0 at o
-  unfolding tokensTo run recordStart charges
+  pub walk-start : (at : ℕ) → at ≡ 9 → Walking c s n q o 0 at 0 o
+  unfolding tokensTo run recordStart charges evaluateCalls
   walk-start at e = record {
     within = omega arith;
     same-length = refl;
     is-at = e ∙ omega arith;
     so-far = front n o (omega (arith, start .room));
+    counted = refl;
   }
 
-  module _ (k at : ℕ) (d : List ℕ) (inv : Walking c s n q o k at d) where
-    pub walk-end : q ≤ k → d ≡ over (joinBlocks (evaluate (circuitOf c) (cut n o) s)) o
+  module _ (k at calls : ℕ) (d : List ℕ) (inv : Walking c s n q o k at calls d) where
+    -- at most two calls of π for each gate
+    pub walk-few : calls ≤ 2 * k
+    walk-few =
+        let gs = tabulate k (gateAt c) in
+        let l : charges gs ≤ k = omega (arith, charges-le gs, tabulate-length k (gateAt c)) in
+        omega (arith, inv .counted, evaluate-calls-all (getD s 2 0) gs (drop 9 s) (cut n o), mul-le-mul l (asked-few (getD s 2 0)))
+
+    pub walk-end : q ≤ k → WalkedIs c s n o calls d
     unfolding evaluate circuitOf tokensTo
     walk-end h =
         let w = inv .within in
         let e : k ≡ gates c = omega (arith, start .is-q) in
-        inv .so-far ∙ rw e
+        record { left = inv .so-far ∙ rw e; calls-made = inv .counted ∙ rw e }
 
     module _ (more : k < q) where
       room-at : at + charge (kindOf (gateAt c k .code)) * recordLength (S s) ≤ length s
@@ -246,8 +278,41 @@ module _ (c s : List ℕ) (n q : ℕ) (o : List ℕ) (start : WalkStart c s n q 
             inv .is-at,
           )
 
-      pub walk-turn : (next : ℕ) (d′ : List ℕ) → TokenIs (getD s 2 0) n k (gateAt c k) s at d next d′ → Walking c s n q o (k + 1) next d′
-      walk-turn next d′ step =
+      -- the calls of gate k are those of the tokens held
+      calls-next : evaluateCallsAt (getD s 2 0) (kindOf (gateAt c k .code)) (gateWire n k) (tokenAt d (gateAt c k .a)) (tokenAt d (gateAt c k .b))
+          ≡ evaluateCallsAt (getD s 2 0) (kindOf (gateAt c k .code)) (suc (length (tokensTo c s (cut n o) k))) (wire (block 0) (tokensTo c s (cut n o) k) (gateAt c k .a)) (wire (block 0) (tokensTo c s (cut n o) k) (gateAt c k .b))
+      calls-next =
+          let a = operands-held in
+          let own : gateWire n k ≡ suc (length (tokensTo c s (cut n o) k)) = omega (arith, blocks-length held) in
+          rw (
+            token-held (gateAt c k .a) (a .a-low) (omega (arith, a .order, a .b-high, start .is-n)),
+            token-held (gateAt c k .b) (omega (arith, a .a-low, a .order)) (omega (arith, a .b-high, start .is-n)),
+            own,
+          )
+
+      counted-next : (made : ℕ)
+          → made ≡ evaluateCallsAt (getD s 2 0) (kindOf (gateAt c k .code)) (gateWire n k) (tokenAt d (gateAt c k .a)) (tokenAt d (gateAt c k .b))
+          → calls + made ≡ evaluateCalls (getD s 2 0) (tabulate (suc k) (gateAt c)) (drop 9 s) (cut n o)
+      unfolding tokensTo
+      counted-next made is-made =
+          rw (tabulate-snoc k (gateAt c), evaluate-calls-snoc (getD s 2 0) (tabulate k (gateAt c)) (gateAt c k) (drop 9 s) (cut n o))
+          (ap₂ (λ (x y : ℕ). x + y) (inv .counted) (is-made ∙ calls-next))
+
+      pub walk-calls : (next made : ℕ) (d′ : List ℕ) → TokenIs (getD s 2 0) n k (gateAt c k) s at d next made d′ → Fits w64 (calls + made)
+      walk-calls next made d′ step =
+          let kind = kindOf (gateAt c k .code) in
+          omega (
+            arith,
+            walk-few,
+            accepted-header c (start .accepted) .sizes .sum,
+            start .is-q,
+            step .calls-made,
+            evaluate-calls-at (getD s 2 0) kind (gateWire n k) (tokenAt d (gateAt c k .a)) (tokenAt d (gateAt c k .b)),
+            mul-le-mul (charge-le kind) (asked-few (getD s 2 0)),
+          )
+
+      pub walk-turn : (next made : ℕ) (d′ : List ℕ) → TokenIs (getD s 2 0) n k (gateAt c k) s at d next made d′ → Walking c s n q o (k + 1) next (calls + made) d′
+      walk-turn next made d′ step =
           let x : Block = openStep (S s) (drop (recordStart c s k) s) (tokensTo c s (cut n o) k) (gateAt c k) in
           let wide : length x ≡ 16 = unfold openStep in (open-at-wide (S s) (scheme-sound (getD s 2 0)) _ _ _ _ _) in
           let left : d′ ≡ put d (16 * (n + k)) x = rw token-next at (step .token-left) in
@@ -256,9 +321,10 @@ module _ (c s : List ℕ) (n q : ℕ) (o : List ℕ) (start : WalkStart c s n q 
             same-length = rw left (put-length d (16 * (n + k)) x (omega (arith, inv .same-length, start .room)) ∙ inv .same-length);
             is-at = rw (add-one, start-more) (rw (inv .is-at) at (step .is-next));
             so-far = rw (add-one, tokens-more) (left ∙ rw (inv .so-far) (over-block held x o wide (omega (arith, start .room))));
+            counted = rw add-one (counted-next made (step .calls-made));
           }
 
-pub ruleset walk-turns = (walk-scheme, walk-start, walk-end, walk-step, walk-turn)
+pub ruleset walk-turns = (walk-scheme, walk-start, walk-end, walk-step, walk-calls, walk-turn)
 
 -- ---- evaluate_wires: d is the buffer after the tokens were copied to its front
 module _ (c ts s : List ℕ) (n q : ℕ) (o : List ℕ) (start : WiresStart c ts s n q o) (d : List ℕ) (is-d : d ≡ over ts o) where
@@ -286,12 +352,16 @@ module _ (c ts s : List ℕ) (n q : ℕ) (o : List ℕ) (start : WiresStart c ts
   unfolding evaluateBytes evaluate circuitOf tokensTo
   all-tokens = rw (← start .walk .is-n, ← start .walk .is-q) (join-length (tokens-blocks c s q (cut-blocks n ts (omega (arith, start .tokens)))))
 
-  pub wires-done : (x : List ℕ) → x ≡ over (joinBlocks (evaluate (circuitOf c) (cut n d) s)) d → x ≡ over (evaluateBytes (circuitOf c) ts s) o
-  wires-done x is-x =
+  left-is : (x : List ℕ) → x ≡ over (joinBlocks (evaluate (circuitOf c) (cut n d) s)) d → x ≡ over (evaluateBytes (circuitOf c) ts s) o
+  left-is x is-x =
       let e : joinBlocks (evaluate (circuitOf c) (cut n ts) s) ≡ evaluateBytes (circuitOf c) ts s =
       unfold evaluateBytes circuitOf in (rw (start .walk .is-n)) in
       is-x
       ∙ rw (copied, e, is-d)
       (over-over (evaluateBytes (circuitOf c) ts s) o ts (omega (arith, all-tokens, start .tokens)) (omega (arith, all-tokens, start .walk .room)))
+
+  pub wires-done : (calls : ℕ) (x : List ℕ) → WalkedIs c s n d calls x → WiresAre c ts s o calls x
+  unfolding evaluateCallsOf
+  wires-done calls x is = record { left = left-is x (is .left); calls-made = is .calls-made ∙ rw (copied, start .walk .is-n) }
 
 pub ruleset wires-cases = (wires-walk, wires-done)

@@ -14,7 +14,6 @@ use Rattle.model.specs.Bytes.{tabulate, over}
 use Rattle.model.specs.Circuit.{circuitOf, inputs, outputs, gates, markAt, recordAt, gateAt, kindOf, charge, charges, sizesHold}
 use Rattle.aes.specs.Tables.{IsTTables}
 use Rattle.model.specs.Aes.{keyExpansion, fixedKey}
-use Rattle.model.specs.Garbling.{schemeOf}
 use Rattle.model.specs.Material.{rowsStored}
 use Rattle.model.specs.Refusals.{fine, firstOf, headVerdict, gatesVerdict, rowStart, rowVerdict, rowRecordAt}
 use Rattle.model.specs.Operations.{sizesOf, evaluatedOf, evaluateVerdict, EvaluateIs}
@@ -30,13 +29,14 @@ pub record Lent (t k : List ℕ) : Type 0 where
 
 -- ---- the walk's steps
 
--- on to gate k of a pass, with so many rows of a charged gate
-pub record GoesTo (pass k : ℕ) (z : Sizes) (here : Cursor) (rows : ℕ) (w : Walk) : Type 0 where
+-- on to gate k of a pass, with so many rows of a charged gate, and so many calls of π made
+pub record GoesTo (pass k : ℕ) (z : Sizes) (here : Cursor) (rows calls : ℕ) (w : Walk) : Type 0 where
   pub is-pass : w .pass ≡ pass
   pub is-k : w .k ≡ k
   pub is-z : w .z ≡ z
   pub is-here : w .here ≡ here
   pub is-rows : w .rows ≡ rows
+  pub is-calls : w .calls ≡ calls
 
 -- it is over
 pub record Ended (a : Evaluated) (w : Walk) : Type 0 where
@@ -45,13 +45,13 @@ pub record Ended (a : Evaluated) (w : Walk) : Type 0 where
 
 -- 3: "more than 65,535 records", or sizes that break a limit. Else the rows are those of the material's scheme byte
 pub record Begun (n m q : ℕ) (s : List ℕ) (w : Walk) : Type 0 where
-  pub goes : (leb q 65535 && sizesHold n m q) ≡ true → GoesTo 0 0 (record { n = n; m = m; q = q; p = 0 }) (record { at = 9 }) (rowsStored (getD s 2 0)) w
+  pub goes : (leb q 65535 && sizesHold n m q) ≡ true → GoesTo 0 0 (record { n = n; m = m; q = q; p = 0 }) (record { at = 9 }) (rowsStored (getD s 2 0)) 0 w
   pub stops : (leb q 65535 && sizesHold n m q) ≡ false → Ended (Evaluated.Refused Limits) w
 
--- the token of gate k is written: on to the next gate, or over
-pub record Onward (scheme k : ℕ) (z : Sizes) (there : Cursor) (rows : ℕ) (w : Walk) : Type 0 where
-  pub goes : k + 1 < z .q → GoesTo 2 (k + 1) z there rows w
-  pub stops : z .q ≤ k + 1 → Ended (Evaluated.Done (z .p * schemeOf scheme .evaluateCalls)) w
+-- the token of gate k is written, and so many calls of π are made: on to the next gate, or over
+pub record Onward (k : ℕ) (z : Sizes) (there : Cursor) (rows calls : ℕ) (w : Walk) : Type 0 where
+  pub goes : k + 1 < z .q → GoesTo 2 (k + 1) z there rows calls w
+  pub stops : z .q ≤ k + 1 → Ended (Evaluated.Done calls) w
 
 -- g is gate k of the circuit, and its record has its mark
 pub record GateIs (c : List ℕ) (k : ℕ) (g : Gate) : Type 0 where
@@ -92,11 +92,11 @@ pub record Checked (c ts s o : List ℕ) (left k : ℕ) (z : Sizes) (at : ℕ) (
   pub untouched : d ≡ o
   pub turns : 2 * gates c ≤ left + k
 
--- pass 2: the tokens of k gates are written; the turns left are at least as many as are needed
-pub record Written (c ts s o : List ℕ) (left k : ℕ) (z : Sizes) (at : ℕ) (d : List ℕ) : Type 0 where
+-- pass 2: the tokens of k gates are written, by so many calls of π; the turns left are at least as many as are needed
+pub record Written (c ts s o : List ℕ) (left k : ℕ) (z : Sizes) (at calls : ℕ) (d : List ℕ) : Type 0 where
   pub sizes : z ≡ sizesOf c
   pub fit : evaluateVerdict c ts s (length o) ≡ fine
-  pub so-far : Walking c s (inputs c) (gates c) (over ts o) k at d
+  pub so-far : Walking c s (inputs c) (gates c) (over ts o) k at calls d
   pub turns : gates c ≤ left + k
 
 pub record Stands (c ts s o : List ℕ) (left : ℕ) (w : Walk) (d : List ℕ) : Type 0 where
@@ -105,7 +105,7 @@ pub record Stands (c ts s o : List ℕ) (left : ℕ) (w : Walk) (d : List ℕ) :
   pub rows : w .pass ≤ 2 → w .rows ≡ rowsStored (getD s 2 0)
   pub pass-0 : w .pass ≡ 0 → Tried c s o left (w .k) (w .z) (w .here .at) d
   pub pass-1 : w .pass ≡ 1 → Checked c ts s o left (w .k) (w .z) (w .here .at) d
-  pub pass-2 : w .pass ≡ 2 → Written c ts s o left (w .k) (w .z) (w .here .at) d
+  pub pass-2 : w .pass ≡ 2 → Written c ts s o left (w .k) (w .z) (w .here .at) (w .calls) d
   pub ended : w .pass ≡ 3 → EvaluateIs c ts s o (evaluatedOf (w .answer)) d
 
 -- ---- what the walk's functions ask
@@ -140,11 +140,12 @@ pub record Checks (ts s : List ℕ) (k : ℕ) (z : Sizes) (rows at : ℕ) : Type
   pub tokens : length ts ≡ 16 * z .n
   pub room : at + 2 + z .m ≤ length s
 
--- room for the gate's token; t and k are what is lent
+-- room for the gate's token, and few calls of π made; t and k are what is lent
 pub record Writes (t k s d : List ℕ) (w : Walk) (g : Gate) : Type 0 where
   pub lent : Lent t k
   pub few : Few (w .k) (w .z) (w .z .q)
   pub is-rows : w .rows ≡ rowsStored (getD s 2 0)
+  pub few-calls : w .calls ≤ 2 * w .k
   pub header : 9 ≤ length s
   pub start : TokenStart (getD s 2 0) (w .z .n) (w .k) g s (w .here .at) d
 
@@ -172,5 +173,5 @@ pub record CheckLeads (ts s : List ℕ) (w : Walk) (g : Gate) (d : List ℕ) (r 
 
 pub record WriteLeads (s : List ℕ) (w : Walk) (g : Gate) (d : List ℕ) (r : Walk) (d′ : List ℕ) : Type 0 where
   pub on : 2 ≤ r .pass
-  pub leads : (c ts o : List ℕ) (left : ℕ) → w .k < gates c → GateIs c (w .k) g → Written c ts s o (suc left) (w .k) (w .z) (w .here .at) d
+  pub leads : (c ts o : List ℕ) (left : ℕ) → w .k < gates c → GateIs c (w .k) g → Written c ts s o (suc left) (w .k) (w .z) (w .here .at) (w .calls) d
       → Stands c ts s o left r d′

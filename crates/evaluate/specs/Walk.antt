@@ -11,7 +11,9 @@ use Rattle.model.specs.Aes.{Block}
 use Rattle.model.specs.Scheme.{Scheme}
 use Rattle.model.specs.Garbling.{schemeOf}
 use Rattle.model.specs.Material.{joinBlocks, materialLength}
-use Rattle.model.specs.Evaluation.{cut, openAt, run, tokenAt}
+use Rattle.model.specs.Evaluation.{cut, openAt, run, evaluate, evaluateBytes, tokenAt}
+use Rattle.model.specs.Calls.{evaluateCallsAt, evaluateCalls}
+use Rattle.model.specs.Operations.{evaluateCallsOf}
 use Rattle.model.specs.Refusals.{fine, isRefused, circuitVerdict}
 use Rattle.evaluate.specs.Gate.{GateRoom}
 
@@ -29,14 +31,15 @@ pub record TokenStart (scheme n k : ℕ) (g : Gate) (s : List ℕ) (at : ℕ) (d
   pub operands : Operands n k g d
   pub record-room : GateRoom scheme (g .code) at s
 
--- its token, made from those of its operands in the buffer, which is d at entry and d′ at exit
-pub record TokenIs (scheme n k : ℕ) (g : Gate) (s : List ℕ) (at : ℕ) (d : List ℕ) (next : ℕ) (d′ : List ℕ) : Type 0 where
+-- its token, made from those of its operands in the buffer, which is d at entry and d′ at exit, and the calls of π made
+pub record TokenIs (scheme n k : ℕ) (g : Gate) (s : List ℕ) (at : ℕ) (d : List ℕ) (next calls : ℕ) (d′ : List ℕ) : Type 0 where
   pub token-left : d′ ≡ put d (16 * (n + k)) (openAt (schemeOf scheme) (kindOf (g .code)) (gateWire n k) (drop at s) (tokenAt d (g .a)) (tokenAt d (g .b)))
   pub is-next : next ≡ at + charge (kindOf (g .code)) * (4 + 16 * schemeOf scheme .stored)
+  pub calls-made : calls ≡ evaluateCallsAt scheme (kindOf (g .code)) (gateWire n k) (tokenAt d (g .a)) (tokenAt d (g .b))
 
--- that of a free gate, by every scheme and over every material: the next record is still at its index
+-- that of a free gate, by every scheme and over every material: the next record is still at its index, and π was not called
 pub record FreeTokenIs (n k : ℕ) (g : Gate) (d d′ : List ℕ) : Type 0 where
-  pub left : (scheme : ℕ) (s : List ℕ) (at : ℕ) → TokenIs scheme n k g s at d at d′
+  pub left : (scheme : ℕ) (s : List ℕ) (at : ℕ) → TokenIs scheme n k g s at d at 0 d′
 
 -- the same of gate k of an accepted circuit
 pub record StepStart (scheme : ℕ) (c : List ℕ) (n k : ℕ) (s : List ℕ) (at : ℕ) (d : List ℕ) : Type 0 where
@@ -75,9 +78,20 @@ tokensTo c s ts k = run (S s) (tabulate k (gateAt c)) (drop 9 s) ts
 unfoldable pub recordStart : List ℕ → List ℕ → ℕ → ℕ
 recordStart c s k = 9 + charges (tabulate k (gateAt c)) * (4 + 16 * S s .stored)
 
--- d is the buffer after k gates of q, and o at the start, whose first n blocks are the inputs' tokens
-pub record Walking (c s : List ℕ) (n q : ℕ) (o : List ℕ) (k at : ℕ) (d : List ℕ) : Type 0 where
+-- d is the buffer after k gates of q and so many calls of π, and o at the start, whose first n blocks are the inputs' tokens
+pub record Walking (c s : List ℕ) (n q : ℕ) (o : List ℕ) (k at calls : ℕ) (d : List ℕ) : Type 0 where
   pub within : k ≤ q
   pub same-length : length d ≡ length o
   pub is-at : at ≡ recordStart c s k
   pub so-far : d ≡ over (joinBlocks (tokensTo c s (cut n o) k)) o
+  pub counted : calls ≡ evaluateCalls (getD s 2 0) (tabulate k (gateAt c)) (drop 9 s) (cut n o)
+
+-- the same after all gates
+pub record WalkedIs (c s : List ℕ) (n : ℕ) (o : List ℕ) (calls : ℕ) (d : List ℕ) : Type 0 where
+  pub left : d ≡ over (joinBlocks (evaluate (circuitOf c) (cut n o) s)) o
+  pub calls-made : calls ≡ evaluateCalls (getD s 2 0) (circuitOf c .gates) (drop 9 s) (cut n o)
+
+-- and from the tokens ts of the inputs
+pub record WiresAre (c ts s o : List ℕ) (calls : ℕ) (d : List ℕ) : Type 0 where
+  pub left : d ≡ over (evaluateBytes (circuitOf c) ts s) o
+  pub calls-made : calls ≡ evaluateCallsOf c ts s

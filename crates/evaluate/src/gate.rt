@@ -7,10 +7,13 @@ ghost use Rattle.aes.specs.Tables.{IsTTables};
 ghost use Rattle.model.specs.Aes.{keyExpansion, fixedKey, block};
 ghost use Rattle.model.specs.Garbling.{schemeOf};
 ghost use Rattle.model.specs.Evaluation.{cut};
+ghost use Rattle.model.specs.Calls.{evaluateAsks};
+ghost use Rattle.scheme.specs.Garbled.{OpenedIs};
 ghost use Rattle.evaluate.specs.Gate.{RowRoom, RecordRoom, HeldRoom, HeldRow};
 use block::Block;
 use block::load;
 use model::Wire;
+use scheme::OpenedGate;
 use scheme::open_half;
 use scheme::open_row;
 use scheme::row_index;
@@ -38,7 +41,7 @@ fn held_row(scheme: u8, material: &[u8], first: usize, i: usize) -> Block
     reduced_row(material, first, i)
 }
 
-// The token of charged gate g, whose record stands at an index. Schemes 1 and 2 load the one row that the colours point at.
+// The token of charged gate g, whose record stands at an index, and the calls of π made. Schemes 1 and 2 load the one row that the colours point at.
 pub fn open_charged(
     t: &[u32; 1024],
     w: &[u8; 176],
@@ -48,11 +51,11 @@ pub fn open_charged(
     b: Block,
     material: &[u8],
     at: usize,
-) -> Block
+) -> OpenedGate
     requires { ⌜ IsTTables (now t) ⌝ }
     requires { ⌜ now w ≡ keyExpansion fixedKey ⌝ }
     requires { ⌜ RecordRoom scheme at (now material) ⌝ }
-    ensures { λ r. ⌜ r .bytes ≡ schemeOf scheme .opened (g .0) (cut (schemeOf scheme .stored) (drop 4 (drop at (now (material .entry))))) (a .bytes) (b .bytes) ⌝ }
+    ensures { λ r. ⌜ OpenedIs (schemeOf scheme .opened (g .0) (cut (schemeOf scheme .stored) (drop 4 (drop at (now (material .entry))))) (a .bytes) (b .bytes)) (evaluateAsks scheme (g .0) (a .bytes) (b .bytes)) r ⌝ }
 {
     let first = at + 4;
     if scheme == 3 {

@@ -3,7 +3,6 @@ ghost use Rattle.model.specs.Operations.{ranOf, evaluatedOf, EvaluateIs, Decode
 use crate::last::decode_outputs;
 use crate::ready::decode_ready;
 use crate::ready::evaluate_ready;
-use crate::walk::calls_made;
 use crate::walk::evaluate_wires;
 use circuit::values::Ready;
 use model::Evaluated;
@@ -22,8 +21,7 @@ pub fn evaluate(circuit: &[u8], tokens: &[u8], material: &[u8], wires: &mut [u8]
     match evaluate_ready(circuit, tokens, material, wires.len()) {
         Ready::Refused(f) => Evaluated::Refused(f),
         Ready::Go(z) => {
-            let calls = calls_made(material[2], z.p);
-            evaluate_wires(circuit, z.n, z.q, tokens, material, wires);
+            let calls = evaluate_wires(circuit, z.n, z.q, tokens, material, wires);
             Evaluated::Done(calls)
         }
     }

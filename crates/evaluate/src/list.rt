@@ -13,7 +13,6 @@ ghost use Rattle.model.specs.Circuit.{kindOf, charge};
 ghost use Rattle.model.specs.Material.{rowsStored};
 ghost use Rattle.model.specs.Operations.{evaluatedOf, EvaluateGatesIs};
 ghost use Rattle.evaluate.specs.GateList.{Lent, Ended, GoesTo, Begun, Onward, Few, RowPassed, Tries, Checks, Writes, TriedLeads, TryLeads, CheckedLeads, CheckLeads, WriteLeads};
-use crate::walk::calls_made;
 use crate::walk::write_charged;
 use crate::walk::write_free;
 use aes::fixed_schedule;
@@ -44,6 +43,7 @@ pub struct Walk {
     pub here: Cursor, // where the next row record is due; in pass 0 place 0, once one was not right
     pub answer: Evaluated, // if it is over
     pub rows: usize, // of a charged gate, by the material's scheme byte: worked out once, before the first gate
+    pub calls: usize, // of π, made in pass 2
 }
 
 // It is over: this is the answer.
@@ -57,12 +57,13 @@ fn ended(k: usize, z: Sizes, here: Cursor, rows: usize, answer: Evaluated) -> Wa
         here,
         answer,
         rows,
+        calls: 0,
     }
 }
 
 // On to gate k of a pass.
-fn go_to(pass: u8, k: usize, z: Sizes, here: Cursor, rows: usize) -> Walk
-    ensures { λ r. ⌜ GoesTo pass k z here rows r ⌝ }
+fn go_to(pass: u8, k: usize, z: Sizes, here: Cursor, rows: usize, calls: usize) -> Walk
+    ensures { λ r. ⌜ GoesTo pass k z here rows calls r ⌝ }
 {
     Walk {
         pass,
@@ -71,6 +72,7 @@ fn go_to(pass: u8, k: usize, z: Sizes, here: Cursor, rows: usize) -> Walk
         here,
         answer: Evaluated::Done(0),
         rows,
+        calls,
     }
 }
 
@@ -99,7 +101,7 @@ pub fn begin(n: u16, m: u16, q: usize, material: &[u8]) -> Walk
     if !sizes_hold(n, m, q) {
         return ended(0, z, first, rows, Evaluated::Refused(Refusal::Limits));
     }
-    go_to(0, 0, z, first, rows)
+    go_to(0, 0, z, first, rows, 0)
 }
 
 // Past the row record of a gate of charge x, if its mark and the wire number that is due stand here; else place 0, where a right
@@ -137,7 +139,7 @@ fn gate_tried(
 {
     let next = k + 1;
     if next < z.q {
-        return go_to(0, next, z, there, rows);
+        return go_to(0, next, z, there, rows, 0);
     }
     let len = tokens.len();
     let list = 16 * z.n;
@@ -154,9 +156,9 @@ fn gate_tried(
         Ran::Refused(f) => ended(k, z, here, rows, Evaluated::Refused(f)),
         Ran::Done => {
             if here.at == 0 {
-                return go_to(1, 0, z, Cursor::first(), rows);
+                return go_to(1, 0, z, Cursor::first(), rows, 0);
             }
-            go_to(1, k, z, here, rows)
+            go_to(1, k, z, here, rows, 0)
         }
     }
 }
@@ -202,7 +204,7 @@ fn record_checked(
 {
     let next = k + 1;
     if next < z.q {
-        return go_to(1, next, z, there, rows);
+        return go_to(1, next, z, there, rows, 0);
     }
     match check_last(material, z.m, there.at) {
         Ran::Refused(f) => ended(k, z, there, rows, Evaluated::Refused(f)),
@@ -212,7 +214,7 @@ fn record_checked(
                 return ended(k, z, there, rows, Evaluated::Refused(Refusal::Room(bytes)));
             }
             copy_front(tokens, wires);
-            go_to(2, 0, z, Cursor::first(), rows)
+            go_to(2, 0, z, Cursor::first(), rows, 0)
         }
     }
 }
@@ -243,19 +245,19 @@ pub fn check_record(s: Walk, g: Gate, tokens: &[u8], material: &[u8], wires: &mu
     record_checked(k, z, there, rows, tokens, material, wires)
 }
 
-// The token of gate k is written. After the last the calls of π are the answer.
-fn token_written(scheme: u8, k: usize, z: Sizes, there: Cursor, rows: usize) -> Walk
+// The token of gate k is written, and so many calls of π are made with it. After the last they are the answer.
+fn token_written(k: usize, z: Sizes, there: Cursor, rows: usize, calls: usize) -> Walk
     requires { ⌜ Few k z (z .q) ⌝ }
-    ensures { λ r. ⌜ Onward scheme k z there rows r ⌝ }
+    ensures { λ r. ⌜ Onward k z there rows calls r ⌝ }
 {
     let next = k + 1;
     if next < z.q {
-        return go_to(2, next, z, there, rows);
+        return go_to(2, next, z, there, rows, calls);
     }
-    ended(k, z, there, rows, Evaluated::Done(calls_made(scheme, z.p)))
+    ended(k, z, there, rows, Evaluated::Done(calls))
 }
 
-// Pass 2 at gate g: its token.
+// Pass 2 at gate g: its token, and its calls of π are added.
 pub fn write_next(
     t: &[u32; 1024],
     w: &[u8; 176],
@@ -270,13 +272,14 @@ pub fn write_next(
     let k = s.k;
     let z = s.z;
     let rows = s.rows;
+    let calls = s.calls;
     let scheme = material[2];
     if code_charge(g.code) == 0 {
         write_free(z.n, k, g, wires);
-        return token_written(scheme, k, z, s.here, rows);
+        return token_written(k, z, s.here, rows, calls);
     }
-    write_charged(t, w, scheme, z.n, k, g, material, s.here, wires);
-    token_written(scheme, k, z, s.here.past(rows), rows)
+    let made = write_charged(t, w, scheme, z.n, k, g, material, s.here, wires);
+    token_written(k, z, s.here.past(rows), rows, calls + made)
 }
 
 // The answer at the end of the walk.

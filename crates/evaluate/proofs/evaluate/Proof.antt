@@ -6,6 +6,5 @@ use Rattle.evaluate.proofs.evaluate.Tie as tie
 pub evaluate-spec : {M : Type 1} → statement M
 evaluate-spec =
     tie.close
-    (tie.spec (λ c κs. search needs) (λ c. search needs) (λ c. search needs) (λ c. search evaluate-cases)
-    (λ c κs. search evaluate-cases) (λ c κs. search evaluate-cases) (λ c. search evaluate-cases) (λ c. search needs)
-    (λ c. search evaluate-cases))
+    (tie.spec (λ c κs. search needs) (λ c. search needs) (λ c. search needs) (λ c κs. search evaluate-cases) (λ c. search evaluate-cases)
+    (λ c. search needs) (λ c. search evaluate-cases))

@@ -1,9 +1,17 @@
 use borrow.Author.Needs.{needs}
-use Rattle.evaluate.proofs.WalkLaws.{token-cases}
+use Rattle.evaluate.proofs.WalkLaws.{charged-done}
 use Rattle.evaluate.proofs.walk.write_charged.Statement.{statement}
 use Rattle.evaluate.proofs.walk.write_charged.Tie as tie
+
+returns : tie.Need-returns
+returns c =
+    let opened = c .before .before .before .before in
+    let load2 = opened .before in
+    let load = load2 .before .before .before in
+    charged-done _ _ _ _ _ _ (load .load .ensures) (load2 .load2 .ensures) _ _ _ _ (load .before .before .before .before .before .pre .1 .1 .1 .1) _
+    (c .before .before .store .ensures) (opened .open-charged .ensures)
 
 pub write-charged-spec : {M : Type 1} → statement M
 write-charged-spec =
     tie.close
-    (tie.spec (λ c. search needs) (λ c. search needs) (λ c. search needs) (λ c. search needs) (λ c. search needs) (λ c. search needs) (λ c. search needs) (λ c. search needs) (λ c κs. search needs) (λ c. search needs) (λ c. search needs) (λ c. search needs) (λ c κs. search needs) (λ c κs. search needs) (λ c κs. search needs) (λ c. search needs) (λ c. search token-cases))
+    (tie.spec (λ c. search needs) (λ c. search needs) (λ c. search needs) (λ c. search needs) (λ c. search needs) (λ c. search needs) (λ c. search needs) (λ c. search needs) (λ c κs. search needs) (λ c. search needs) (λ c. search needs) (λ c. search needs) (λ c κs. search needs) (λ c κs. search needs) (λ c κs. search needs) (λ c. search needs) returns)
