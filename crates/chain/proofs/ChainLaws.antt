@@ -54,7 +54,7 @@ module _ (c seed : List ℕ) (scheme : ℕ) (f z o : List ℕ) (g : Garbled) (f�
     was-fine : garbleVerdict c seed scheme (length f) (length z) (length o) ≡ fine
     was-fine = H.was-fine c seed scheme f z o f′ z′ o′ (made l k) done
 
-    is-made : made l k ≡ garbleMade c scheme
+    is-made : made l k ≡ garbleMade c seed scheme
     is-made = H.garble-made c seed scheme f z o f′ z′ o′ (made l k) done
 
     is-length : l ≡ materialLength scheme (outputs c) (charges (circuitOf c .gates))
@@ -64,7 +64,7 @@ module _ (c seed : List ℕ) (scheme : ℕ) (f z o : List ℕ) (g : Garbled) (f�
     start : WholeStart c seed scheme (sizesOf c) f z o
     start = H.garbled c seed scheme f z o f′ z′ o′ (made l k) done
 
-    ran : GarbleIs c seed scheme f z o (yes (garbleMade c scheme)) f′ z′ o′
+    ran : GarbleIs c seed scheme f z o (yes (garbleMade c seed scheme)) f′ z′ o′
     ran = rw is-made at done
 
     pub material-among : l ≤ length f′

@@ -29,8 +29,8 @@ module _ (c : List ℕ) (s : Sizes) (t : List ℕ) (start : EvaluateStart c s t)
     evaluate-on-refused e h = rw h at answers
 
     module _ (k : ℕ) (h : q ≡ Evaluated.Done k) where
-      told : Given (evaluateVerdict c (take (16 * s .n) t) f (length w)) k (evaluateCallsOf c f)
-      told = yes-given _ k (evaluateCallsOf c f) (let e = answers .answered in rw h at e)
+      told : Given (evaluateVerdict c (take (16 * s .n) t) f (length w)) k (evaluateCallsOf c (take (16 * s .n) t) f)
+      told = yes-given _ k (evaluateCallsOf c (take (16 * s .n) t) f) (let e = answers .answered in rw h at e)
 
       pub decode-ready : DecodeStart c s w′
       decode-ready =

@@ -46,20 +46,20 @@ then-only (refused j y) w i x f g e = f e
 pub garble-refused : (c seed : List ℕ) (scheme : ℕ) (v f z o f′ z′ o′ : List ℕ) (i x : ℕ)
     → GarbleIs c seed scheme f z o (no (refused i x)) f′ z′ o′ → Allowed c seed scheme v → IsRoom (refused i x)
 garble-refused c seed scheme v f z o f′ z′ o′ i x answers permitted =
-    let d = no-turned (garbleVerdict c seed scheme (length f) (length z) (length o)) (refused i x) (garbleMade c scheme) (answers .answered) in
+    let d = no-turned (garbleVerdict c seed scheme (length f) (length z) (length o)) (refused i x) (garbleMade c seed scheme) (answers .answered) in
     then-only _ _ i x (then-only _ _ i x (room-only _ _ i x) (room-only _ _ i x)) (room-only _ _ i x)
     (d .is-w ∙ sym (d .is-v) ∙ only-room c seed scheme v permitted .garble-room (length f) (length z) (length o))
 
 -- ---- garble ran
 module _ (c seed : List ℕ) (scheme : ℕ) (f z o f′ z′ o′ : List ℕ) (made : Made) (ran : GarbleIs c seed scheme f z o (yes made) f′ z′ o′) where
   pub was-fine : garbleVerdict c seed scheme (length f) (length z) (length o) ≡ fine
-  was-fine = yes-given _ made (garbleMade c scheme) (ran .answered) .is-fine
+  was-fine = yes-given _ made (garbleMade c seed scheme) (ran .answered) .is-fine
 
   pub garbled : WholeStart c seed scheme (sizesOf c) f z o
   garbled = garble-fine c seed scheme f z o was-fine
 
-  pub garble-made : made ≡ garbleMade c scheme
-  garble-made = yes-given (garbleVerdict c seed scheme (length f) (length z) (length o)) made (garbleMade c scheme) (ran .answered) .is-result
+  pub garble-made : made ≡ garbleMade c seed scheme
+  garble-made = yes-given (garbleVerdict c seed scheme (length f) (length z) (length o)) made (garbleMade c seed scheme) (ran .answered) .is-result
 
   -- the bytes of the material that garble wrote
   pub file-is : (v : List ℕ) → take (materialLength scheme (outputs c) (charges (circuitOf c .gates))) f′ ≡ chainMaterial c seed scheme v
@@ -121,9 +121,9 @@ module _ (c seed : List ℕ) (scheme : ℕ) (f z o f′ z′ o′ : List ℕ) (m
         room-only _ _ i x (d .is-w ∙ sym (d .is-v) ∙ only-room c seed scheme v allowed .evaluate-room (length w))
 
     -- ---- evaluate ran
-    module _ (w w′ : List ℕ) (evaluated : EvaluateIs c (take (16 * inputs c) t′) file w (yes (evaluateCallsOf c file)) w′) where
+    module _ (w w′ : List ℕ) (evaluated : EvaluateIs c (take (16 * inputs c) t′) file w (yes (evaluateCallsOf c (take (16 * inputs c) t′) file)) w′) where
       evaluate-was-fine : evaluateVerdict c (take (16 * inputs c) t′) file (length w) ≡ fine
-      evaluate-was-fine = yes-given _ (evaluateCallsOf c file) (evaluateCallsOf c file) (evaluated .answered) .is-fine
+      evaluate-was-fine = yes-given _ (evaluateCallsOf c (take (16 * inputs c) t′) file) (evaluateCallsOf c (take (16 * inputs c) t′) file) (evaluated .answered) .is-fine
 
       pub wires-are : w′ ≡ over (chainTokens c seed scheme v) w
       unfolding chainTokens

@@ -23,17 +23,17 @@ module _ (c seed : List ℕ) (scheme : ℕ) (v f z o t w b f′ z′ o′ t′ w
   distance-is : (k : ℕ) → 1 ≤ k → k ≤ inputs c + gates c → distance (tokenAt w′ k) (tokenAt z′ k) ≡ distanceAt c seed scheme v k
   unfolding distanceAt
   distance-is k l h =
-      let a = allowed c seed scheme f z o f′ z′ o′ (garbleMade c scheme) garbled v t t′ encoded in
+      let a = allowed c seed scheme f z o f′ z′ o′ (garbleMade c seed scheme) garbled v t t′ encoded in
       rw (
-        wires-are c seed scheme f z o f′ z′ o′ (garbleMade c scheme) garbled v t t′ encoded w w′ evaluated,
-        zeros-are c seed scheme f z o f′ z′ o′ (garbleMade c scheme) garbled v,
+        wires-are c seed scheme f z o f′ z′ o′ (garbleMade c seed scheme) garbled v t t′ encoded w w′ evaluated,
+        zeros-are c seed scheme f z o f′ z′ o′ (garbleMade c seed scheme) garbled v,
         token-over (chainTokens c seed scheme v) w k l (omega (arith, tokens-long c seed scheme v a)),
         token-over (chainZeros c seed scheme v) z k l (omega (arith, zeros-long c seed scheme v a)),
       )
 
   pub wires-right : WiresRight c seed scheme v z′ w′
   wires-right =
-      let a = allowed c seed scheme f z o f′ z′ o′ (garbleMade c scheme) garbled v t t′ encoded in
+      let a = allowed c seed scheme f z o f′ z′ o′ (garbleMade c seed scheme) garbled v t t′ encoded in
       record {
         allowed = a;
         at-zero = λ k l h. rw (distance-is k l h) (demand-3 c seed scheme v a .at-zero k l h);
@@ -42,7 +42,7 @@ module _ (c seed : List ℕ) (scheme : ℕ) (v f z o t w b f′ z′ o′ t′ w
 
   pub bits-right : DecodeAnswers c seed scheme v f z o t w b f′ z′ o′ t′ w′ b′ fine → BitsRight c seed scheme v b′
   bits-right decoded = record {
-    decoded = bits-handed c seed scheme f z o f′ z′ o′ (garbleMade c scheme) garbled v t t′ encoded w w′ evaluated b b′ decoded;
+    decoded = bits-handed c seed scheme f z o f′ z′ o′ (garbleMade c seed scheme) garbled v t t′ encoded w w′ evaluated b b′ decoded;
   }
 
 -- ---- where the chain ended, from what the calls after garble did
@@ -54,7 +54,7 @@ module _ (c seed : List ℕ) (scheme : ℕ) (v f z o t w b f′ z′ o′ t′ w
   ended (Chained.Encode x) d = record {
     garble-ran = ran;
     encode-is = d .0;
-    only-19 = λ a. encode-refused c seed scheme f z o f′ z′ o′ (garbleMade c scheme) ran v a t t′ _ _ (d .0);
+    only-19 = λ a. encode-refused c seed scheme f z o f′ z′ o′ (garbleMade c seed scheme) ran v a t t′ _ _ (d .0);
     wires-kept = d .1;
     bits-kept = d .2;
   }
@@ -62,7 +62,7 @@ module _ (c seed : List ℕ) (scheme : ℕ) (v f z o t w b f′ z′ o′ t′ w
     garble-ran = ran;
     encode-ran = d .encode-is;
     evaluate-is = d .evaluate-on .0;
-    only-19 = evaluate-refused c seed scheme f z o f′ z′ o′ (garbleMade c scheme) ran v t t′ (d .encode-is) w w′ _ _ (d .evaluate-on .0);
+    only-19 = evaluate-refused c seed scheme f z o f′ z′ o′ (garbleMade c seed scheme) ran v t t′ (d .encode-is) w w′ _ _ (d .evaluate-on .0);
     bits-kept = d .evaluate-on .1;
   }
   ended (Chained.Decode x) d =
@@ -72,7 +72,7 @@ module _ (c seed : List ℕ) (scheme : ℕ) (v f z o t w b f′ z′ o′ t′ w
         encode-ran = d .encode-is;
         evaluate-ran = e .evaluate-is;
         decode-is = e .decode-is;
-        only-19 = decode-refused c seed scheme f z o f′ z′ o′ (garbleMade c scheme) ran v t t′ (d .encode-is) w w′ (e .evaluate-is) b b′ _ _ (e .decode-is);
+        only-19 = decode-refused c seed scheme f z o f′ z′ o′ (garbleMade c seed scheme) ran v t t′ (d .encode-is) w w′ (e .evaluate-is) b b′ _ _ (e .decode-is);
         wires-right = wires-right c seed scheme v f z o t w b f′ z′ o′ t′ w′ b′ ran (d .encode-is) (e .evaluate-is);
       }
   ended Chained.Done d =

@@ -50,7 +50,7 @@ module _ (c seed : List ℕ) (scheme : ℕ) (v f z o t w b f′ z′ o′ t′ w
 
   -- garble ran
   abbrev pub GarbleRan : Type 0
-  GarbleRan = GarbleIs c seed scheme f z o (yes (garbleMade c scheme)) f′ z′ o′
+  GarbleRan = GarbleIs c seed scheme f z o (yes (garbleMade c seed scheme)) f′ z′ o′
 
   -- "Encode gets the first 16n bytes of the zero tokens and the one tokens, as garble wrote them"; it answered r
   abbrev pub EncodeAnswers : Verdict → Type 0
@@ -61,7 +61,7 @@ module _ (c seed : List ℕ) (scheme : ℕ) (v f z o t w b f′ z′ o′ t′ w
   EvaluateAnswers r = EvaluateIs c (take (16 * inputs c) t′) file w r w′
 
   abbrev pub EvaluateRan : Type 0
-  EvaluateRan = EvaluateAnswers (yes (evaluateCallsOf c file))
+  EvaluateRan = EvaluateAnswers (yes (evaluateCallsOf c (take (16 * inputs c) t′) file))
 
   -- "decode gets that material and evaluate's tokens of the m outputs"
   abbrev pub DecodeAnswers : Verdict → Type 0

@@ -34,7 +34,7 @@ pub record EvaluateStart (c : List ℕ) (s : Sizes) (t : List ℕ) : Type 0 wher
 
 -- evaluate ran, and decode after it
 pub record Evaluated (c : List ℕ) (s : Sizes) (f t w b : List ℕ) (r : Chained) (w′ b′ : List ℕ) : Type 0 where
-  pub evaluate-is : EvaluateIs c (take (16 * s .n) t) f w (yes (evaluateCallsOf c f)) w′
+  pub evaluate-is : EvaluateIs c (take (16 * s .n) t) f w (yes (evaluateCallsOf c (take (16 * s .n) t) f)) w′
   pub decode-is : DecodeOn c s f w′ b r b′
 
 abbrev pub EvaluateOn : List ℕ → Sizes → List ℕ → List ℕ → List ℕ → List ℕ → Chained → List ℕ → List ℕ → Type 0
