@@ -250,12 +250,12 @@ Distinct [] = Unit {0}
 Distinct (x ∷ l) = NotAmong x l × Distinct l
 
 -- by their tweaks
-abbrev tweakOf : Call → ℕ
+abbrev pub tweakOf : Call → ℕ
 tweakOf (sealing A B T) = T
 tweakOf (hashing x i) = i
 
 -- or by the colour of what is hashed
-abbrev colourOf : Call → ℕ
+abbrev pub colourOf : Call → ℕ
 colourOf (sealing A B T) = 0
 colourOf (hashing x i) = colour x
 
@@ -276,7 +276,7 @@ sealings-needed s = (
 )
 
 -- R has colour 1
-other-colour : {R : Block} (x : Block) → Offset R → colour x ≡ colour (x ⊕ R) → ⊥
+pub other-colour : {R : Block} (x : Block) → Offset R → colour x ≡ colour (x ⊕ R) → ⊥
 other-colour {R} x o e = go (colour-bit x) (e ∙ colour-⊕ x R ∙ ap (differ (colour x)) (o .colour-1))
   where
     go : {b : ℕ} → Bit b → b ≡ differ b 1 → ⊥

@@ -13,6 +13,7 @@ pub mod Bits
 pub mod XorRules
 pub mod Tokens
 pub mod Calls
+pub mod Needed
 pub mod Codes
 pub mod Blocks
 pub mod Sound
