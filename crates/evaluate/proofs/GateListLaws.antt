@@ -1,6 +1,5 @@
 -- Evaluation over a list of gate records: a law for each return of the functions of src/list.rt. Assumes nothing.
 use Prim.Native.Nat.{ℕ, zero, suc, _+_, _*_, _≤_, _<_, _^_}
-use native.Mathlib.Nat.{mul-le-mul}
 use native.Mathlib.Numerals.{add-one}
 use native.Mathlib.Decide.{decLt}
 use native.Mathlib.Omega.{arith}
@@ -20,17 +19,15 @@ use Rattle.model.specs.declared.Refusal.the-variants.{Limits, TokensLength, Row
 use Rattle.model.specs.declared.Ran.{Ran}
 use Rattle.model.specs.declared.Evaluated.{Evaluated}
 use Rattle.model.specs.Bytes.{be16, over}
-use Rattle.model.specs.Circuit.{circuitOf, inputs, gates, gateAt, gateWire, markAt, kindOf, charge, sizesHold}
+use Rattle.model.specs.Circuit.{circuitOf, inputs, gates, gateAt, markAt, kindOf, charge, sizesHold}
 use Rattle.aes.specs.Tables.{IsTTables}
 use Rattle.model.specs.Aes.{keyExpansion, fixedKey}
 use Rattle.model.specs.Garbling.{schemeOf}
 use Rattle.model.specs.Material.{rowsStored}
-use Rattle.model.specs.Evaluation.{tokenAt}
 use Rattle.model.specs.Refusals.{fine, refused, refuse, _then_, firstOf, numberOf, placeOf, verdictOf, headVerdict, gateVerdict, recordVerdict, gatesVerdict, circuitVerdict, tokensVerdict, fileVerdict, materialVerdict, roomVerdict, rowRecordAt}
 use Rattle.model.specs.Operations.{sizesOf, ranOf, evaluatedOf, evaluateVerdict, EvaluateIs}
 use Rattle.model.proofs.Lists.{tabulate-snoc}
 use Rattle.model.proofs.Circuits.{charge-le, charges-snoc}
-use Rattle.model.proofs.Calls.{asked-few, evaluate-calls-at}
 use Rattle.model.proofs.Verdicts.{then-fine, refuse-fine, and-both, Given, yes-given, Turned, no-turned, first-next, first-found}
 use Rattle.circuit.specs.declared.gates.GateRead.{GateRead}
 use Rattle.circuit.specs.declared.values.Ready.{Ready}
@@ -49,7 +46,7 @@ use Rattle.evaluate.specs.Gate.{RecordRoom}
 use Rattle.evaluate.specs.Walk.{TokenIs, FreeTokenIs, WiresStart, Walking}
 use Rattle.evaluate.specs.GateList.{Ended, GoesTo, Begun, Onward, GateIs, RowsRight, Guessed, Tried, Checked, Written, Stands, TriedLeads, TryLeads, CheckedLeads, CheckLeads, WriteLeads, Few, RowPassed, Tries, Checks, Writes}
 use Rattle.evaluate.proofs.ReadyLaws.{evaluate-verdict}
-use Rattle.evaluate.proofs.WalkLaws.{past-is, charged-room, charge-cases, walk-start, walk-turn, walk-end, wires-walk, wires-done}
+use Rattle.evaluate.proofs.WalkLaws.{few-made, past-is, charged-room, charge-cases, walk-start, walk-turn, walk-end, wires-walk, wires-done}
 use Rattle.evaluate.proofs.EvaluateLaws.{evaluate-start, evaluate-done}
 
 -- ---- scheme_rows, of the rows as they were counted
@@ -684,17 +681,7 @@ module _ (t k s d : List ℕ) (w : Walk) (g : Gate) (asked : Writes t k s d w g)
     -- no count overflows
     pub write-calls : (next made : ℕ) (d′ : List ℕ) → TokenIs (getD s 2 0) (w .z .n) (w .k) g s (w .here .at) d next made d′ → Fits w64 (w .calls + made)
     write-calls next made d′ is =
-        let a = tokenAt d (g .a) in
-        let b = tokenAt d (g .b) in
-        omega (
-          arith,
-          asked .few-calls,
-          asked .few .more,
-          asked .few .wires,
-          is .calls-made,
-          evaluate-calls-at (getD s 2 0) (kindOf (g .code)) (gateWire (w .z .n) (w .k)) a b,
-          mul-le-mul (charge-le (kindOf (g .code))) (asked-few (getD s 2 0)),
-        )
+        omega (arith, asked .few-calls, asked .few .more, asked .few .wires, few-made (getD s 2 0) (w .z .n) (w .k) g s (w .here .at) d next made d′ is)
 
     pub write-on-charged : (there : Cursor) → there .at ≡ w .here .at + 4 + 16 * w .rows → (made : ℕ) (d′ : List ℕ)
         → TokenIs (getD s 2 0) (w .z .n) (w .k) g s (w .here .at) d (w .here .at + (4 + 16 * schemeOf (getD s 2 0) .stored)) made d′ → (r : Walk)

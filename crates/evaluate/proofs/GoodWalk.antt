@@ -97,7 +97,7 @@ module _ (c ts s o : List ℕ) (left : ℕ) (w : Walk) (d : List ℕ) (st : Stan
           is-rows = st .rows go;
           few-calls = walk-few c s _ _ (B.over ts o) start (w .k) (w .here .at) (w .calls) d (u .so-far);
           header = omega (arith, start .whole);
-          start = rw (is-n c (w .z) known) (step-token (getD s 2 0) c (inputs c) (w .k) s (w .here .at) d step g (is .is-g));
+          start = rw (is-n c (w .z) known) (step-token (getD s 2 0) c (inputs c) (w .k) s (w .here .at) (w .calls) d step g (is .is-g));
         }
 
 -- ---- a walk that goes on has turns left

@@ -38,7 +38,7 @@ use Rattle.scheme.specs.declared.OpenedGate.{OpenedGate}
 use Rattle.scheme.specs.Garbled.{OpenedIs}
 use Rattle.evaluate.specs.Gate.{RecordRoom, GateRoom}
 use Rattle.evaluate.proofs.GateLaws.{free-opened}
-use Rattle.evaluate.specs.Walk.{Operands, TokenStart, TokenIs, FreeTokenIs, StepStart, WalkStart, WiresStart, S, tokensTo, recordStart, Walking, WalkedIs, WiresAre}
+use Rattle.evaluate.specs.Walk.{Operands, TokenStart, TokenIs, FreeTokenIs, StepStart, StepIs, WalkStart, WiresStart, S, tokensTo, recordStart, Walking, WalkedIs, WiresAre}
 
 -- a charged gate's token, by its scheme
 charged-opens : (S : Scheme) (k : Kind) → charge k ≡ 1 → (g : ℕ) (bs : List ℕ) (A B : Block) → openAt S k g bs A B ≡ S .opened g (cut (S .stored) (drop 4 bs)) A B
@@ -119,13 +119,23 @@ module _ (scheme at : ℕ) (s : List ℕ) (r : RecordRoom scheme at s) (rows : �
 pub charged-room : (scheme code at : ℕ) (s : List ℕ) → GateRoom scheme code at s → charge (kindOf code) ≡ 1 → RecordRoom scheme at s
 charged-room scheme code at s r h = let l = rw h at (r .room) in record { low = r .low; high = r .high; room = omega arith }
 
+-- at most two calls of π for a gate
+pub few-made : (scheme n k : ℕ) (g : Gate) (s : List ℕ) (at : ℕ) (d : List ℕ) (next made : ℕ) (d′ : List ℕ) → TokenIs scheme n k g s at d next made d′ → made ≤ 2
+few-made scheme n k g s at d next made d′ t =
+    omega (
+      arith,
+      t .calls-made,
+      evaluate-calls-at scheme (kindOf (g .code)) (gateWire n k) (tokenAt d (g .a)) (tokenAt d (g .b)),
+      mul-le-mul (charge-le (kindOf (g .code))) (asked-few scheme),
+    )
+
 -- ---- write_token_at
 
 used-known : {k : Kind} → Used k → isRefused k ≡ false
 used-known used-charged = refl
 used-known used-free = refl
 
-module _ (scheme : ℕ) (c : List ℕ) (n k : ℕ) (s : List ℕ) (at : ℕ) (d : List ℕ) (start : StepStart scheme c n k s at d) where
+module _ (scheme : ℕ) (c : List ℕ) (n k : ℕ) (s : List ℕ) (at calls : ℕ) (d : List ℕ) (start : StepStart scheme c n k s at calls d) where
   in-circuit : HeaderHolds c
   in-circuit = accepted-header c (start .accepted)
 
@@ -156,13 +166,17 @@ module _ (scheme : ℕ) (c : List ℕ) (n k : ℕ) (s : List ℕ) (at : ℕ) (d 
   pub step-room : (g : Gate) → g ≡ gateAt c k → charge (kindOf (g .code)) ≡ 1 → RecordRoom scheme at s
   step-room g is-g h = charged-room scheme (g .code) at s (step-token g is-g .record-room) h
 
-  pub step-free : (g : Gate) → g ≡ gateAt c k → (d′ : List ℕ) → FreeTokenIs n k g d d′ → TokenIs scheme n k (gateAt c k) s at d at 0 d′
-  step-free g is-g d′ t = rw (← is-g) (t .left scheme s at)
+  pub step-free : (g : Gate) → g ≡ gateAt c k → (d′ : List ℕ) → FreeTokenIs n k g d d′ → StepIs scheme n k (gateAt c k) s at calls d at calls d′
+  step-free g is-g d′ t = record { made = 0; token = rw (← is-g) (t .left scheme s at); added = omega arith }
 
   module _ (g : Gate) (is-g : g ≡ gateAt c k) (h : charge (kindOf (g .code)) ≡ 1) (rows : ℕ) (is-rows : rows ≡ rowsStored scheme) where
-    pub step-charged : (next : ℕ) → next ≡ at + 4 + 16 * rows → (calls : ℕ) (d′ : List ℕ) → TokenIs scheme n k g s at d (at + (4 + 16 * schemeOf scheme .stored)) calls d′
-        → TokenIs scheme n k (gateAt c k) s at d next calls d′
-    step-charged next e calls d′ t = rw (past-is scheme at s (step-room g is-g h) rows is-rows next e, ← is-g) t
+    pub step-charged : (next : ℕ) → next ≡ at + 4 + 16 * rows → (made : ℕ) (d′ : List ℕ) → TokenIs scheme n k g s at d (at + (4 + 16 * schemeOf scheme .stored)) made d′
+        → StepIs scheme n k (gateAt c k) s at calls d next (calls + made) d′
+    step-charged next e made d′ t = record { made = made; token = rw (past-is scheme at s (step-room g is-g h) rows is-rows next e, ← is-g) t; added = refl }
+
+  -- no count overflows
+  pub step-calls : (g : Gate) (next made : ℕ) (d′ : List ℕ) → TokenIs scheme n k g s at d next made d′ → Fits w64 (calls + made)
+  step-calls g next made d′ t = omega (arith, start .few-calls, step-small, few-made scheme n k g s at d next made d′ t)
 
 -- a charge that is not 0 is 1
 pub step-one : (k : Kind) (x : ℕ) → x ≡ charge k → (x ≡ 0 → ⊥) → charge k ≡ 1
@@ -175,7 +189,7 @@ step-none k x e h = sym e ∙ h
 
 pub ruleset charge-cases = (step-none, step-one)
 
-pub ruleset step-cases = (step-record, step-small, step-operands, step-room, step-free, step-charged, charge-cases)
+pub ruleset step-cases = (step-record, step-small, step-operands, step-room, step-free, step-charged, step-calls, charge-cases)
 
 -- ---- write_tokens
 
@@ -246,13 +260,14 @@ module _ (c s : List ℕ) (n q : ℕ) (o : List ℕ) (start : WalkStart c s n q 
           let w = rw (← rows-stored (getD s 2 0) (start .scheme-low) (start .scheme-high)) at (start .whole) in
           omega (arith, rw add-mul at m, inv .is-at)
 
-      pub walk-step : StepStart (getD s 2 0) c n k s at d
+      pub walk-step : StepStart (getD s 2 0) c n k s at calls d
       walk-step = record {
         accepted = start .accepted;
         is-n = start .is-n;
         more = omega (arith, start .is-q);
         record-room = record { low = start .scheme-low; high = start .scheme-high; room = room-at };
         token-room = omega (arith, start .room, inv .same-length);
+        few-calls = walk-few;
       }
 
       held : Blocks (n + k) (tokensTo c s (cut n o) k)
@@ -298,19 +313,6 @@ module _ (c s : List ℕ) (n q : ℕ) (o : List ℕ) (start : WalkStart c s n q 
           rw (tabulate-snoc k (gateAt c), evaluate-calls-snoc (getD s 2 0) (tabulate k (gateAt c)) (gateAt c k) (drop 9 s) (cut n o))
           (ap₂ (λ (x y : ℕ). x + y) (inv .counted) (is-made ∙ calls-next))
 
-      pub walk-calls : (next made : ℕ) (d′ : List ℕ) → TokenIs (getD s 2 0) n k (gateAt c k) s at d next made d′ → Fits w64 (calls + made)
-      walk-calls next made d′ step =
-          let kind = kindOf (gateAt c k .code) in
-          omega (
-            arith,
-            walk-few,
-            accepted-header c (start .accepted) .sizes .sum,
-            start .is-q,
-            step .calls-made,
-            evaluate-calls-at (getD s 2 0) kind (gateWire n k) (tokenAt d (gateAt c k .a)) (tokenAt d (gateAt c k .b)),
-            mul-le-mul (charge-le kind) (asked-few (getD s 2 0)),
-          )
-
       pub walk-turn : (next made : ℕ) (d′ : List ℕ) → TokenIs (getD s 2 0) n k (gateAt c k) s at d next made d′ → Walking c s n q o (k + 1) next (calls + made) d′
       walk-turn next made d′ step =
           let x : Block = openStep (S s) (drop (recordStart c s k) s) (tokensTo c s (cut n o) k) (gateAt c k) in
@@ -324,7 +326,10 @@ module _ (c s : List ℕ) (n q : ℕ) (o : List ℕ) (start : WalkStart c s n q 
             counted = rw add-one (counted-next made (step .calls-made));
           }
 
-pub ruleset walk-turns = (walk-scheme, walk-start, walk-end, walk-step, walk-calls, walk-turn)
+      pub walk-stepped : (next calls′ : ℕ) (d′ : List ℕ) → StepIs (getD s 2 0) n k (gateAt c k) s at calls d next calls′ d′ → Walking c s n q o (k + 1) next calls′ d′
+      walk-stepped next calls′ d′ step = rw (step .added) (walk-turn next (step .made) d′ (step .token))
+
+pub ruleset walk-turns = (walk-scheme, walk-start, walk-end, walk-step, walk-stepped)
 
 -- ---- evaluate_wires: d is the buffer after the tokens were copied to its front
 module _ (c ts s : List ℕ) (n q : ℕ) (o : List ℕ) (start : WiresStart c ts s n q o) (d : List ℕ) (is-d : d ≡ over ts o) where

@@ -41,7 +41,8 @@ fn held_row(scheme: u8, material: &[u8], first: usize, i: usize) -> Block
     reduced_row(material, first, i)
 }
 
-// The token of charged gate g, whose record stands at an index, and the calls of π made. Schemes 1 and 2 load the one row that the colours point at.
+// The token of charged gate g, whose record stands at an index, and the calls of π made. Schemes 1 and 2 load the one row that the
+// colours point at.
 pub fn open_charged(
     t: &[u32; 1024],
     w: &[u8; 176],

@@ -7,7 +7,7 @@ ghost use Rattle.model.specs.Aes.{keyExpansion, fixedKey};
 ghost use Rattle.model.specs.Circuit.{gateAt, kindOf, charge};
 ghost use Rattle.model.specs.Garbling.{schemeOf};
 ghost use Rattle.evaluate.specs.Gate.{RecordRoom};
-ghost use Rattle.evaluate.specs.Walk.{Operands, FreeTokenIs, TokenIs, StepStart, WalkStart, WalkedIs, WiresStart, WiresAre};
+ghost use Rattle.evaluate.specs.Walk.{Operands, FreeTokenIs, TokenIs, StepStart, StepIs, WalkStart, WalkedIs, WiresStart, WiresAre};
 use crate::gate::open_charged;
 use aes::fixed_schedule;
 use aes::t_tables;
@@ -65,13 +65,13 @@ pub fn write_charged(
     made.calls
 }
 
-// What a gate comes to: where the next row record stands, and the calls of π that were made for it.
-struct Stepped {
+// Between two gates: where the next row record stands, and the calls of π made so far.
+struct SoFar {
     here: Cursor,
     calls: usize,
 }
 
-// The token of gate k as the circuit's bytes have it. The next row record stands here, and after this gate where the result says.
+// The token of gate k as the circuit's bytes have it, and what is so far after it: a charged gate adds the calls of π made for it.
 fn write_token_at(
     t: &[u32; 1024],
     w: &[u8; 176],
@@ -80,22 +80,23 @@ fn write_token_at(
     n: usize,
     k: usize,
     material: &[u8],
-    here: Cursor,
+    s: SoFar,
     wires: &mut [u8],
-) -> Stepped
+) -> SoFar
     requires { ⌜ IsTTables (now t) ⌝ }
     requires { ⌜ now w ≡ keyExpansion fixedKey ⌝ }
-    requires { ⌜ StepStart scheme (now circuit) n k (now material) (here .at) (now wires) ⌝ }
-    ensures { λ r. ⌜ TokenIs scheme n k (gateAt (now (circuit .entry)) k) (now (material .entry)) (here .at) (now (wires .entry)) (r .here .at) (r .calls) (now (wires .exit)) ⌝ }
+    requires { ⌜ StepStart scheme (now circuit) n k (now material) (s .here .at) (s .calls) (now wires) ⌝ }
+    ensures { λ r. ⌜ StepIs scheme n k (gateAt (now (circuit .entry)) k) (now (material .entry)) (s .here .at) (s .calls) (now (wires .entry)) (r .here .at) (r .calls) (now (wires .exit)) ⌝ }
 {
     let g = gate_at(circuit, k);
     if code_charge(g.code) == 0 {
         write_free(n, k, g, wires);
-        return Stepped { here, calls: 0 };
+        return s;
     }
-    let calls = write_charged(t, w, scheme, n, k, g, material, here, wires);
-    let here = here.past(rows_stored(scheme));
-    Stepped { here, calls }
+    let made = write_charged(t, w, scheme, n, k, g, material, s.here, wires);
+    let here = s.here.past(rows_stored(scheme));
+    let calls = s.calls + made;
+    SoFar { here, calls }
 }
 
 // The tokens of the gates, written after the inputs' tokens, which stand at the front of the buffer. Answers the calls of π made,
@@ -115,19 +116,18 @@ pub fn write_tokens(
     ensures { λ r. ⌜ WalkedIs (now (circuit .entry)) (now (material .entry)) n (now (wires .entry)) r (now (wires .exit)) ⌝ }
 {
     let scheme = material[2];
-    let mut here = Cursor::first();
+    let here = Cursor::first();
+    let mut s = SoFar { here, calls: 0 };
     let mut k: usize = 0;
-    let mut calls: usize = 0;
     while k < q {
-        let step = write_token_at(t, w, scheme, circuit, n, k, material, here, wires);
-        here = step.here;
-        calls += step.calls;
+        s = write_token_at(t, w, scheme, circuit, n, k, material, s, wires);
         k += 1;
     }
-    calls
+    s.calls
 }
 
-// The tokens of all wires, from those of the inputs; answers the calls of π made. The T-tables and π's schedule are made once, here, and lent down.
+// The tokens of all wires, from those of the inputs; answers the calls of π made. The T-tables and π's schedule are made once, here,
+// and lent down.
 pub fn evaluate_wires(
     circuit: &[u8],
     n: usize,

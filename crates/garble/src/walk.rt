@@ -38,7 +38,7 @@ pub struct Stepped {
     pub calls: usize,
 }
 
-// One gate: what it adds to the zeros and to the material, at a place. A free gate calls π not at all.
+// One gate: what it adds to the zeros and to the material, at a place. A free gate makes no call of π.
 // The seed is lent for the contract alone: ws is its schedule.
 pub fn garble_step(
     m: &[u32; 1024],
