@@ -28,7 +28,7 @@ const STAMP: &str = "a repository/target/stamp/sizes";
 const HEADER: &str = "a repository/include/weighhare.h";
 
 /// The crates that the program is built from.
-const CRATES: [&str; 5] = ["model", "buffer", "circuit", "material", "sizes"];
+const CRATES: [&str; 6] = ["model", "buffer", "circuit", "material", "text", "sizes"];
 
 /// The beginning of what the script says before it proves.
 const NOTE: &str = "sizes: proving and building the program";
@@ -72,10 +72,7 @@ impl Place {
         };
         place.copy("sizes", SCRIPT);
         place.copy("include/weighhare.h", HEADER);
-        place.write(
-            "a repository/crates.txt",
-            b"sizes: model circuit material\n",
-        );
+        place.write("a repository/crates.txt", b"sizes: text io libc\n");
         for name in CRATES {
             place.write(&source(name), b"fn main() {}\n");
         }
