@@ -28,7 +28,7 @@ use Rattle.model.proofs.Lists.{tabulate-snoc, tabulate-length}
 use Rattle.model.proofs.Buffers.{over-length, over-over, over-put, put-length}
 use Rattle.model.proofs.Blocks.{Blocks, blocks-length, join-length, join-snoc, cut-blocks, cut-take, join-cut, token-at-front}
 use Rattle.model.proofs.Circuits.{charge-le, charges-le, charges-snoc, charges-among}
-use Rattle.model.proofs.Calls.{askedHeld, asked-few, evaluate-calls-at, evaluate-calls-all, evaluate-calls-snoc}
+use Rattle.model.proofs.Calls.{asked-few, evaluate-calls-at, evaluate-calls-all, evaluate-calls-snoc}
 use Rattle.model.proofs.Gates.{recordLength, open-at-wide}
 use Rattle.model.proofs.Lengths.{run-blocks}
 use Rattle.model.proofs.OneMore.{run-snoc}

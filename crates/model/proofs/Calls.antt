@@ -1,6 +1,6 @@
 -- The calls of π: how many they are, that none is missing from a gate's list, and that none is listed twice. Assumes nothing.
 use Prim.Native.Nat.{ℕ, _+_, _*_, _≤_}
-use native.Mathlib.Nat.{add-mul, mul-comm}
+use native.Mathlib.Nat.{add-mul}
 use native.Mathlib.Omega.{arith}
 use mathlib.Core.Path.{_≡_, refl, sym, ap, ap₂, _∙_}
 use mathlib.Core.Bool.{Bool, true, false, cond}
@@ -13,7 +13,7 @@ use Rattle.model.specs.Circuit.{Kind, charged, free, refused, kindOf, ch
 use Rattle.model.specs.Aes.{Block, _⊕_, block}
 use Rattle.model.specs.Tokens.{Garbling, colour, garblingOf, inputZeros}
 use Rattle.model.specs.Scheme.{Site, Scheme}
-use Rattle.model.specs.Gax.{tokenOf, sealed, rowAt, openRow, gax}
+use Rattle.model.specs.Gax.{sealed, rowAt, openRow, gax}
 use Rattle.model.specs.Gaxr.{reducedZero, gaxr}
 use Rattle.model.specs.HalfGates.{halfA, halfB, rowG, rowE, joined, halfZero, half}
 use Rattle.model.specs.Garbling.{schemeOf, own, siteOf, zeroStep}
