@@ -3,12 +3,13 @@ mod halves; // a block as a number in two words
 
 pub use halves::Halves;
 use model::Colour;
+use model::Truth;
 ghost use mathlib.Core.Path.{_≡_};
 ghost use Prim.Native.Nat.{_+_, _*_, _≤_};
 ghost use lib.ListN.{length, take, drop};
 ghost use Rattle.model.specs.Bytes.{put};
 ghost use Rattle.model.specs.Aes.{_⊕_, block, double, quadruple};
-ghost use Rattle.model.specs.Tokens.{colour, coloured};
+ghost use Rattle.model.specs.Tokens.{colour, coloured, decoded};
 
 // "A block is 16 bytes."
 pub struct Block {
@@ -59,6 +60,15 @@ impl Block {
     {
         Halves::of_block(self).doubled().doubled().block()
     }
+}
+
+// The truth value that a token of the colour held carries on a wire whose zero token has the colour zero: R has colour 1, so the two
+// differ where it is 1. The one place where colours become a truth value, for garbling and for decoding.
+pub fn decoded(held: Colour, zero: Colour) -> Truth
+    requires { ⌜ (held .0 ≤ 1) × (zero .0 ≤ 1) ⌝ }
+    ensures { λ r. ⌜ (r .0 ≡ decoded (held .0) (zero .0)) × (r .0 ≤ 1) ⌝ }
+{
+    Truth(held.0 ^ zero.0)
 }
 
 // The block at an index of a buffer.

@@ -77,7 +77,7 @@ module _ (code : ℕ) (k : Kinds.Kind) (is-k : meaning k ≡ kindOf code) where
     pub charged-known : false ≡ isRefused (kindOf code)
     charged-known = rw (← is-k, e)
 
-  module _ (p q c : ℕ) (e : k ≡ Kinds.Kind.Free p q c) where
+  module _ (p q c : Truth) (e : k ≡ Kinds.Kind.Free p q c) where
     pub charge-free : 0 ≡ charge (kindOf code)
     charge-free = rw (← is-k, e)
 
@@ -101,9 +101,9 @@ module _ (code : ℕ) (k : Kinds.Kind) (is-k : meaning k ≡ kindOf code) where
   pub takes-charged : (u v x : Truth) → k ≡ Kinds.Kind.Charged u v x → TakesIs (kindOf code) 1 1
   takes-charged u v x e = rw (← is-k, e) (record { is-a = refl; is-b = refl; bit-a = omega arith; bit-b = omega arith })
 
-  pub takes-free : (p q c : ℕ) → k ≡ Kinds.Kind.Free p q c → TakesIs (kindOf code) p q
+  pub takes-free : (p q c : Truth) → k ≡ Kinds.Kind.Free p q c → TakesIs (kindOf code) (p .0) (q .0)
   takes-free p q c e =
-      let table : FreeTable (value code) p q c = rw (← is-k, e) at (code-means code) in
+      let table : FreeTable (value code) (p .0) (q .0) (c .0) = rw (← is-k, e) at (code-means code) in
       rw (← is-k, e) (record { is-a = refl; is-b = refl; bit-a = small (table .bit-p); bit-b = small (table .bit-q) })
     where
       small : {x : ℕ} → Bit x → x ≤ 1
@@ -121,7 +121,7 @@ module _ (k : Kinds.Kind) where
   pub three-charged : (u v x : Truth) → k ≡ Kinds.Kind.Charged u v x → (r : ℕ) → r ≡ 4 * u .0 + 2 * v .0 + x .0 → r ≡ threeBits (meaning k)
   three-charged u v x e r is-r = rw e is-r
 
-  pub three-free : (p q c : ℕ) → k ≡ Kinds.Kind.Free p q c → (r : ℕ) → r ≡ 4 * p + 2 * q + c → r ≡ threeBits (meaning k)
+  pub three-free : (p q c : Truth) → k ≡ Kinds.Kind.Free p q c → (r : ℕ) → r ≡ 4 * p .0 + 2 * q .0 + c .0 → r ≡ threeBits (meaning k)
   three-free p q c e r is-r = rw e is-r
 
   pub three-refused : k ≡ Kinds.Kind.Refused → 0 ≡ threeBits (meaning k)

@@ -15,28 +15,28 @@ use Rattle.circuit.specs.declared.gates.GateRead.{GateRead}
 
 -- gate record k as it was read
 pub gate-read : (s : List ℕ) (k a b : ℕ) → a ≡ be16 s (recordAt k + 2) → b ≡ be16 s (recordAt k + 4) →
-    _≡_ {A = Gate} (record { a = a; b = b; code = getD s (recordAt k + 6) 0 }) (gateAt s k)
+    _≡_ {A = Gate} (record { a = record { 0 = a }; b = record { 0 = b }; code = getD s (recordAt k + 6) 0 }) (gateAt s k)
 unfolding gateAt
 gate-read s k a b e f = cc
 
 -- ---- read_gate
 module _ (own : ℕ) (g : Gate) where
-  pub operand-low : g .a < 1 → no (refused 6 own) ≡ gateAnswer own g
+  pub operand-low : g .a .0 < 1 → no (refused 6 own) ≡ gateAnswer own g
   unfolding gateVerdict operandsHold _then_ refuse
   operand-low x = simp (lt-leb _ _ x)
 
-  module _ (x : 1 ≤ g .a) where
-    pub operand-order : g .b ≤ g .a → no (refused 6 own) ≡ gateAnswer own g
+  module _ (x : 1 ≤ g .a .0) where
+    pub operand-order : g .b .0 ≤ g .a .0 → no (refused 6 own) ≡ gateAnswer own g
     unfolding gateVerdict operandsHold _then_ refuse
     operand-order y = simp (le-leb _ _ x, le-ltb _ _ y)
 
-    module _ (y : g .a < g .b) where
-      pub operand-high : own ≤ g .b → no (refused 6 own) ≡ gateAnswer own g
+    module _ (y : g .a .0 < g .b .0) where
+      pub operand-high : own ≤ g .b .0 → no (refused 6 own) ≡ gateAnswer own g
       unfolding gateVerdict operandsHold _then_ refuse
       operand-high z = simp (le-leb _ _ x, lt-ltb _ _ y, le-ltb _ _ z)
 
       -- whether the code is refused, as it was read
-      module _ (z : g .b < own) (b : Bool) (is-b : b ≡ isRefused (kindOf (g .code))) where
+      module _ (z : g .b .0 < own) (b : Bool) (is-b : b ≡ isRefused (kindOf (g .code))) where
         pub gate-refused : b ≡ true → no (refused 7 own) ≡ gateAnswer own g
         unfolding gateVerdict operandsHold _then_ refuse
         gate-refused e = simp (le-leb _ _ x, lt-ltb _ _ y, lt-ltb _ _ z, ← is-b, e)

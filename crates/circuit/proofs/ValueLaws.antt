@@ -103,16 +103,16 @@ module _ (c o : List ℕ) (n q : ℕ) (start : PlainStart c o n q) where
     operands = accepted-gate c k (start .accepted) (omega (arith, start .is-q))
 
     module _ (g : Gate) (is-g : g ≡ gateAt c k) where
-      pub gate-low : 1 ≤ g .a
+      pub gate-low : 1 ≤ g .a .0
       gate-low = rw is-g (operands .a-low)
 
-      gate-order : g .a < g .b
+      gate-order : g .a .0 < g .b .0
       gate-order = rw is-g (operands .order)
 
-      gate-high : g .b < gateWire n k
+      gate-high : g .b .0 < gateWire n k
       gate-high = rw (is-g, start .is-n) (operands .b-high)
 
-      pub gate-low-2 : 1 ≤ g .b
+      pub gate-low-2 : 1 ≤ g .b .0
       gate-low-2 = omega (arith, gate-order)
 
       -- the buffer
@@ -126,25 +126,25 @@ module _ (c o : List ℕ) (n q : ℕ) (start : PlainStart c o n q) where
         bit-at : (i : ℕ) → i < n + k → getD d i 0 ≤ 1
         bit-at i h = rw (at-wire i h) (values-bits c (take n o) k (start .bits) i)
 
-        pub read-a : g .a - 1 < length d
+        pub read-a : g .a .0 - 1 < length d
         read-a = omega (arith, gate-low, gate-order, gate-high, start .room, inv .same-length)
 
-        pub read-b : g .b - 1 < length d
+        pub read-b : g .b .0 - 1 < length d
         read-b = omega (arith, gate-order, gate-high, start .room, inv .same-length)
 
-        pub bit-a : getD d (g .a - 1) 0 ≤ 1
-        bit-a = bit-at (g .a - 1) (omega (arith, gate-low, gate-order, gate-high))
+        pub bit-a : getD d (g .a .0 - 1) 0 ≤ 1
+        bit-a = bit-at (g .a .0 - 1) (omega (arith, gate-low, gate-order, gate-high))
 
-        pub bit-b : getD d (g .b - 1) 0 ≤ 1
-        bit-b = bit-at (g .b - 1) (omega (arith, gate-low, gate-order, gate-high))
+        pub bit-b : getD d (g .b .0 - 1) 0 ≤ 1
+        bit-b = bit-at (g .b .0 - 1) (omega (arith, gate-low, gate-order, gate-high))
 
-        pub plain-turn : (x : ℕ) → x ≡ value (g .code) (getD d (g .a - 1) 0) (getD d (g .b - 1) 0) → Evaluating c o n q (k + 1) (set d (n + k) x)
+        pub plain-turn : (x : ℕ) → x ≡ value (g .code) (getD d (g .a .0 - 1) 0) (getD d (g .b .0 - 1) 0) → Evaluating c o n q (k + 1) (set d (n + k) x)
         plain-turn x is-x =
             let low = gate-low in
             let order = gate-order in
             let high = gate-high in
             let e : x ≡ gateValue (valuesTo c (take n o) k) (gateAt c k) =
-            is-x ∙ unfold gateValue in (rw (at-wire (g .a - 1) (omega arith), at-wire (g .b - 1) (omega arith), is-g)) in
+            is-x ∙ unfold gateValue in (rw (at-wire (g .a .0 - 1) (omega arith), at-wire (g .b .0 - 1) (omega arith), is-g)) in
             record {
               within = omega arith;
               same-length = simp length-set (inv .same-length);

@@ -22,7 +22,7 @@ use Rattle.circuit.specs.declared.values.Ready.{Ready}
 
 abbrev pub meaning : Kinds.Kind → Kind
 meaning (Kinds.Kind.Charged u v own) = charged (u .0) (v .0) (own .0)
-meaning (Kinds.Kind.Free p q c) = free p q c
+meaning (Kinds.Kind.Free p q c) = free (p .0) (q .0) (c .0)
 meaning Kinds.Kind.Refused = refused
 
 -- whether a gate of a kind takes its operands

@@ -16,10 +16,18 @@ fn matched_kind(code: u8) -> Kind
         1 => Kind::Charged(Truth(0), Truth(0), Truth(1)),
         2 => Kind::Charged(Truth(0), Truth(1), Truth(1)),
         4 => Kind::Charged(Truth(1), Truth(0), Truth(1)),
-        6 => Kind::Free { p: 1, q: 1, c: 0 },
+        6 => Kind::Free {
+            p: Truth(1),
+            q: Truth(1),
+            c: Truth(0),
+        },
         7 => Kind::Charged(Truth(1), Truth(1), Truth(0)),
         8 => Kind::Charged(Truth(1), Truth(1), Truth(1)),
-        9 => Kind::Free { p: 1, q: 1, c: 1 },
+        9 => Kind::Free {
+            p: Truth(1),
+            q: Truth(1),
+            c: Truth(1),
+        },
         11 => Kind::Charged(Truth(1), Truth(0), Truth(0)),
         13 => Kind::Charged(Truth(0), Truth(1), Truth(0)),
         14 => Kind::Charged(Truth(0), Truth(0), Truth(0)),
@@ -51,26 +59,32 @@ pub fn code_refused(code: u8) -> bool
 
 // Which operands a gate takes, 1 for each that it does.
 pub struct Takes {
-    pub a: u8,
-    pub b: u8,
+    pub a: Truth,
+    pub b: Truth,
 }
 
 // Those of a code: of a free one p and q, of a charged one both. No accepted circuit has a refused one.
 pub fn code_takes(code: u8) -> Takes
-    ensures { λ r. ⌜ TakesIs (kindOf code) (r .a) (r .b) ⌝ }
+    ensures { λ r. ⌜ TakesIs (kindOf code) (r .a .0) (r .b .0) ⌝ }
 {
     match matched_kind(code) {
-        Kind::Charged(_, _, _) => Takes { a: 1, b: 1 },
+        Kind::Charged(_, _, _) => Takes {
+            a: Truth(1),
+            b: Truth(1),
+        },
         Kind::Free { p, q, c: _ } => Takes { a: p, b: q },
-        Kind::Refused => Takes { a: 1, b: 1 },
+        Kind::Refused => Takes {
+            a: Truth(1),
+            b: Truth(1),
+        },
     }
 }
 
-// Three bits as one number.
-fn joined(x: u8, y: u8, z: u8) -> u64
-    ensures { λ r. ⌜ r ≡ 4 * x + 2 * y + z ⌝ }
+// Three truth values as the bits of one number.
+fn joined(x: Truth, y: Truth, z: Truth) -> u64
+    ensures { λ r. ⌜ r ≡ 4 * x .0 + 2 * y .0 + z .0 ⌝ }
 {
-    4 * (x as u64) + 2 * (y as u64) + (z as u64)
+    4 * (x.0 as u64) + 2 * (y.0 as u64) + (z.0 as u64)
 }
 
 // What a kind has beside its case: a charged one its pair and the value there, a free one p, q and c.
@@ -78,7 +92,7 @@ fn three_bits(k: Kind) -> u64
     ensures { λ r. ⌜ r ≡ threeBits (meaning k) ⌝ }
 {
     match k {
-        Kind::Charged(u, v, own) => joined(u.0, v.0, own.0),
+        Kind::Charged(u, v, own) => joined(u, v, own),
         Kind::Free { p, q, c } => joined(p, q, c),
         Kind::Refused => 0,
     }
@@ -120,9 +134,9 @@ pub fn code_kind(code: u8) -> Kind
     }
     let x = code_three(code);
     Kind::Free {
-        p: x / 4,
-        q: x / 2 % 2,
-        c: x % 2,
+        p: Truth(x / 4),
+        q: Truth(x / 2 % 2),
+        c: Truth(x % 2),
     }
 }
 

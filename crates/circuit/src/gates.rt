@@ -29,8 +29,8 @@ pub fn gate_at(circuit: &[u8], k: usize) -> Gate
     ensures { λ r. ⌜ r ≡ gateAt (now (circuit .entry)) k ⌝ }
 {
     let at = 8 + 7 * k;
-    let a = read16(circuit, at + 2);
-    let b = read16(circuit, at + 4);
+    let a = Wire(read16(circuit, at + 2));
+    let b = Wire(read16(circuit, at + 4));
     Gate {
         a,
         b,
@@ -42,13 +42,13 @@ pub fn gate_at(circuit: &[u8], k: usize) -> Gate
 pub fn read_gate(own: Wire, g: Gate) -> GateRead
     ensures { λ r. ⌜ gateOf r ≡ gateAnswer (own .0) g ⌝ }
 {
-    if g.a < 1 {
+    if g.a.0 < 1 {
         return GateRead::Fault(Refusal::Operands(own));
     }
-    if g.b <= g.a {
+    if g.b.0 <= g.a.0 {
         return GateRead::Fault(Refusal::Operands(own));
     }
-    if own.0 <= g.b {
+    if own.0 <= g.b.0 {
         return GateRead::Fault(Refusal::Operands(own));
     }
     if code_refused(g.code) {

@@ -76,8 +76,8 @@ pub fn plain_gates(circuit: &[u8], n: usize, q: usize, wires: &mut [u8])
     let mut k: usize = 0;
     while k < q {
         let g = gate_at(circuit, k);
-        let a = g.a as usize;
-        let b = g.b as usize;
+        let a = g.a.0 as usize;
+        let b = g.b.0 as usize;
         let u = Truth(wires[a - 1]);
         let v = Truth(wires[b - 1]);
         let x = code_value(g.code, u, v);

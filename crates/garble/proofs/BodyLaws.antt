@@ -5,7 +5,7 @@ use native.Mathlib.Omega.{arith}
 use mathlib.Core.Path.{_≡_, sym, ap, _∙_}
 use mathlib.Core.List.{List, _∷_, _++_}
 use lib.ListN.{length, length-append}
-use mir.Syntax.{w64}
+use mir.Syntax.{w16, w64}
 use mir.Val.{Fits}
 use Rattle.model.specs.declared.Sizes.{Sizes}
 use Rattle.model.specs.Bytes.{tabulate, over, put}
@@ -76,6 +76,10 @@ module _ (c seed : List ℕ) (scheme n r : ℕ) (R : Block) (w : List ℕ) (walk
 
   pub first-fits : Fits w64 (s .n + s .q - s .m + 1)
   first-fits = omega (arith, is-n, is-q, limits .sizes .sum)
+
+  -- and the first output's wire has 16 bits
+  pub first-wire : Fits w16 (s .n + s .q - s .m + 1)
+  first-wire = omega (arith, is-n, is-q, is-m, limits .sizes .sum, limits .sizes .m-low)
 
   -- ---- after the gates
   module _ (m1 z1 : List ℕ) (calls : ℕ) (done : GatesIs c seed scheme m z m1 z1 calls) where

@@ -28,25 +28,25 @@ module _ (c : List ℕ) (n k : ℕ) (z : List ℕ) (start : OperandsStart c n k 
   own-small = omega (arith, in-circuit .sizes .sum, start .more, start .is-n)
 
   module _ (g : Gate) (is-g : g ≡ gateAt c k) where
-    pub low-a : 1 ≤ g .a
+    pub low-a : 1 ≤ g .a .0
     low-a = rw is-g (operands .a-low)
 
-    order : g .a < g .b
+    order : g .a .0 < g .b .0
     order = rw is-g (operands .order)
 
-    high-b : g .b < gateWire (inputs c) k
+    high-b : g .b .0 < gateWire (inputs c) k
     high-b = rw is-g (operands .b-high)
 
-    pub low-b : 1 ≤ g .b
+    pub low-b : 1 ≤ g .b .0
     low-b = omega (arith, order)
 
-    pub load-a : 16 * (g .a - 1) + 16 ≤ length z
+    pub load-a : 16 * (g .a .0 - 1) + 16 ≤ length z
     load-a = omega (arith, low-a, order, high-b, start .more, start .room)
 
-    pub load-b : 16 * (g .b - 1) + 16 ≤ length z
+    pub load-b : 16 * (g .b .0 - 1) + 16 ≤ length z
     load-b = omega (arith, order, high-b, start .more, start .room)
 
-    pub operands-read : (r : GateIn) → r .code ≡ g .code → r .own .0 ≡ n + k + 1 → r .xa .bytes ≡ take 16 (drop (16 * (g .a - 1)) z) → r .xb .bytes ≡ take 16 (drop (16 * (g .b - 1)) z)
+    pub operands-read : (r : GateIn) → r .code ≡ g .code → r .own .0 ≡ n + k + 1 → r .xa .bytes ≡ take 16 (drop (16 * (g .a .0 - 1)) z) → r .xb .bytes ≡ take 16 (drop (16 * (g .b .0 - 1)) z)
         → GateInIs c n k z r
     unfolding tokenAt
     operands-read r e f h i = record {

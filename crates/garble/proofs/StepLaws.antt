@@ -83,11 +83,11 @@ module _ (c seed : List ℕ) (scheme n r : ℕ) (R : Block) (w : List ℕ) (walk
 
     -- what was read is what garbling knows at the gate
     module _ (g : GateIn) (is-g : GateInIs c n k z g) where
-      xa-is : g .xa .bytes ≡ wire (block 0) (zerosTo c seed scheme k) (gateAt c k .a)
-      xa-is = is-g .is-xa ∙ token (gateAt c k .a) (holds .a-low) (omega (arith, holds .order, holds .b-high))
+      xa-is : g .xa .bytes ≡ wire (block 0) (zerosTo c seed scheme k) (gateAt c k .a .0)
+      xa-is = is-g .is-xa ∙ token (gateAt c k .a .0) (holds .a-low) (omega (arith, holds .order, holds .b-high))
 
-      xb-is : g .xb .bytes ≡ wire (block 0) (zerosTo c seed scheme k) (gateAt c k .b)
-      xb-is = is-g .is-xb ∙ token (gateAt c k .b) (omega (arith, holds .a-low, holds .order)) (holds .b-high)
+      xb-is : g .xb .bytes ≡ wire (block 0) (zerosTo c seed scheme k) (gateAt c k .b .0)
+      xb-is = is-g .is-xb ∙ token (gateAt c k .b .0) (omega (arith, holds .a-low, holds .order)) (holds .b-high)
 
       own-is : g .own .0 ≡ suc (length (zerosTo c seed scheme k))
       own-is = is-g .is-own ∙ omega (arith, blocks-length (zeros-many k), walk .is-n)
@@ -139,23 +139,23 @@ module _ (c seed : List ℕ) (scheme n r : ℕ) (R : Block) (w : List ℕ) (walk
           }
 
         -- ---- a free gate
-        module _ (p q d : ℕ) (e : kind ≡ Kinds.Kind.Free p q d) where
-          free-is : kindOf (gateAt c k .code) ≡ free p q d
+        module _ (p q d : Truth) (e : kind ≡ Kinds.Kind.Free p q d) where
+          free-is : kindOf (gateAt c k .code) ≡ free (p .0) (q .0) (d .0)
           free-is = code-kind ∙ ap meaning e
 
-          pub step-free-p : p ≤ 1
+          pub step-free-p : p .0 ≤ 1
           step-free-p = free-p _ _ _ _ free-is
 
-          pub step-free-q : q ≤ 1
+          pub step-free-q : q .0 ≤ 1
           step-free-q = free-q _ _ _ _ free-is
 
-          pub step-free-c : d ≤ 1
+          pub step-free-c : d .0 ≤ 1
           step-free-c = free-c _ _ _ _ free-is
 
           pub step-slot : 16 * (n + k) + 16 ≤ length z
           step-slot = omega (arith, start .more, start .wires-room, walk .is-n)
 
-          pub step-free : (x z′ : List ℕ) → x ≡ freeZero p q d R (g .xa .bytes) (g .xb .bytes) → z′ ≡ put z (16 * (n + k)) x → StepIs c seed scheme r k at m z at 0 m z′
+          pub step-free : (x z′ : List ℕ) → x ≡ freeZero (p .0) (q .0) (d .0) R (g .xa .bytes) (g .xb .bytes) → z′ ≡ put z (16 * (n + k)) x → StepIs c seed scheme r k at m z at 0 m z′
           step-free x z′ is-x is-z = record {
             zeros-left = is-z ∙ rw (walk .is-n, is-x) (unfold zeroStep zeroAt siteOf in (rw (free-is, walk .is-offset, xa-is, xb-is)));
             material-left = put-none m at ∙ unfold recordOf in (rw free-is);

@@ -78,8 +78,8 @@ pub record OperandsStart (c : List ℕ) (n k : ℕ) (z : List ℕ) : Type 0 wher
 pub record GateInIs (c : List ℕ) (n k : ℕ) (z : List ℕ) (g : GateIn) : Type 0 where
   pub is-code : g .code ≡ gateAt c k .code
   pub is-own : g .own .0 ≡ gateWire n k
-  pub is-xa : g .xa .bytes ≡ tokenAt z (gateAt c k .a)
-  pub is-xb : g .xb .bytes ≡ tokenAt z (gateAt c k .b)
+  pub is-xa : g .xa .bytes ≡ tokenAt z (gateAt c k .a .0)
+  pub is-xb : g .xb .bytes ≡ tokenAt z (gateAt c k .b .0)
 
 -- gate k comes next, its record at `at`: m and z are the material and the zero tokens so far
 pub record StepStart (c seed : List ℕ) (scheme r k at : ℕ) (m z : List ℕ) : Type 0 where

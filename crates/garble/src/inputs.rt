@@ -10,14 +10,15 @@ ghost use Rattle.garble.specs.Written.{TokenRoom, tokenOf, EncodeStart};
 use block::Block;
 use block::load;
 use block::store;
+use model::Truth;
 
 // The token of input i, from 0, in the zero list for value 0, in the one list for value 1.
-fn input_token(value: u8, zeros: &[u8], ones: &[u8], i: usize) -> Block
-    requires { ⌜ TokenRoom value (now zeros) (now ones) i ⌝ }
-    ensures { λ r. ⌜ r .bytes ≡ tokenOf value (now (zeros .entry)) (now (ones .entry)) i ⌝ }
+fn input_token(value: Truth, zeros: &[u8], ones: &[u8], i: usize) -> Block
+    requires { ⌜ TokenRoom (value .0) (now zeros) (now ones) i ⌝ }
+    ensures { λ r. ⌜ r .bytes ≡ tokenOf (value .0) (now (zeros .entry)) (now (ones .entry)) i ⌝ }
 {
     let at = 16 * i;
-    if value == 0 {
+    if value.0 == 0 {
         load(zeros, at)
     } else {
         load(ones, at)
@@ -31,7 +32,7 @@ pub fn encode_inputs(n: usize, values: &[u8], zeros: &[u8], ones: &[u8], tokens:
 {
     let mut i: usize = 0;
     while i < n {
-        let x = input_token(values[i], zeros, ones, i);
+        let x = input_token(Truth(values[i]), zeros, ones, i);
         store(tokens, 16 * i, x);
         i += 1;
     }

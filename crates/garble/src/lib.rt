@@ -12,6 +12,7 @@ use material::material_length;
 use model::Garbled;
 use model::Ran;
 use model::Refusal;
+use model::Truth;
 use model::Wire;
 
 pub mod inputs;
@@ -67,11 +68,11 @@ pub fn encode(circuit: &[u8], values: &[u8], zeros: &[u8], ones: &[u8], tokens: 
 }
 
 // The refusals of pick, in order: 10, 11, 20.
-pub fn pick_check(zeros: &[u8], ones: &[u8], wire: u16, bit: u8) -> Ran
-    ensures { λ r. ⌜ ranOf r ≡ pickVerdict (now (zeros .entry)) (now (ones .entry)) wire bit ⌝ }
+pub fn pick_check(zeros: &[u8], ones: &[u8], wire: Wire, bit: u8) -> Ran
+    ensures { λ r. ⌜ ranOf r ≡ pickVerdict (now (zeros .entry)) (now (ones .entry)) (wire .0) bit ⌝ }
 {
     let len = zeros.len();
-    let w = wire as usize;
+    let w = wire.0 as usize;
     if 1 < bit {
         return Ran::Refused(Refusal::Value(0));
     }
@@ -82,25 +83,26 @@ pub fn pick_check(zeros: &[u8], ones: &[u8], wire: u16, bit: u8) -> Ran
         return Ran::Refused(Refusal::TokensLength(len));
     }
     if w < 1 {
-        return Ran::Refused(Refusal::PickWire(Wire(wire)));
+        return Ran::Refused(Refusal::PickWire(wire));
     }
     if len < 16 * w {
-        return Ran::Refused(Refusal::PickWire(Wire(wire)));
+        return Ran::Refused(Refusal::PickWire(wire));
     }
     Ran::Done
 }
 
 // The token of a wire for a bit: a part of the one list or the other, or an empty part where `pick_check` refuses.
-pub fn pick<'a>(zeros: &'a [u8], ones: &'a [u8], wire: u16, bit: u8) -> &'a [u8]
-    ensures { λ r. ⌜ PartIs (zeros .entry) (ones .entry) wire bit r ⌝ }
+pub fn pick<'a>(zeros: &'a [u8], ones: &'a [u8], wire: Wire, bit: u8) -> &'a [u8]
+    ensures { λ r. ⌜ PartIs (zeros .entry) (ones .entry) (wire .0) bit r ⌝ }
 {
     match pick_check(zeros, ones, wire, bit) {
         Ran::Refused(_) => &zeros[..0],
         Ran::Done => {
-            let w = wire as usize;
+            let w = wire.0 as usize;
             let at = 16 * (w - 1);
             let end = at + 16;
-            if bit == 0 {
+            let value = Truth(bit);
+            if value.0 == 0 {
                 &zeros[at..end]
             } else {
                 &ones[at..end]

@@ -20,8 +20,8 @@ fn read_operands(circuit: &[u8], n: usize, k: usize, zeros: &[u8]) -> GateIn
     ensures { λ r. ⌜ GateInIs (now (circuit .entry)) n k (now (zeros .entry)) r ⌝ }
 {
     let g = gate_at(circuit, k);
-    let a = 16 * (g.a as usize - 1);
-    let b = 16 * (g.b as usize - 1);
+    let a = 16 * (g.a.0 as usize - 1);
+    let b = 16 * (g.b.0 as usize - 1);
     let xa = load(zeros, a);
     let xb = load(zeros, b);
     GateIn {

@@ -141,7 +141,7 @@ module _ (c : List ℕ) (z : Sizes) (s : List ℕ) (k at : ℕ) (turn : AtGate c
       passed : charge (meaning kind) ≡ 0 → yes at ≡ gateAnswer c s k
       passed e = gate-passed (Step.Next (record { at = at })) (answer-free s at (g .code) (z .n + k + 1) (rw is-kind at e))
 
-      pub gate-free : (p q d : ℕ) → kind ≡ Kind.Free p q d → yes at ≡ gateAnswer c s k
+      pub gate-free : (p q d : Truth) → kind ≡ Kind.Free p q d → yes at ≡ gateAnswer c s k
       gate-free p q d e = passed (rw e)
 
       pub gate-refused : kind ≡ Kind.Refused → yes at ≡ gateAnswer c s k

@@ -62,9 +62,9 @@ accepted-header s e = header-holds s (then-fine _ _ e .0)
 
 -- a gate of wire number own takes two wires before it, in rising order, by a code in use
 pub record GateHolds (own : ℕ) (g : Gate) : Type 0 where
-  pub a-low : 1 ≤ g .a
-  pub order : g .a < g .b
-  pub b-high : g .b < own
+  pub a-low : 1 ≤ g .a .0
+  pub order : g .a .0 < g .b .0
+  pub b-high : g .b .0 < own
   pub used : Used (kindOf (g .code))
 
 not-refused : (k : Kind) → isRefused k ≡ false → Used k

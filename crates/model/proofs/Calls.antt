@@ -114,7 +114,7 @@ garble-calls-snoc γ (x ∷ gs) g xs = omega (arith, garble-calls-snoc γ gs g (
 pub evaluate-calls-snoc : (k : ℕ) (gs : List Gate) (g : Gate) (bs : List ℕ) (ts : List Block)
     → let us = run (schemeOf k) gs bs ts in
     evaluateCalls k (gs ++ (g ∷ [])) bs ts
-    ≡ evaluateCalls k gs bs ts + evaluateCallsAt k (kindOf (g .code)) (own us) (wire (block 0) us (g .a)) (wire (block 0) us (g .b))
+    ≡ evaluateCalls k gs bs ts + evaluateCallsAt k (kindOf (g .code)) (own us) (wire (block 0) us (g .a .0)) (wire (block 0) us (g .b .0))
 unfolding evaluateCalls run
 evaluate-calls-snoc k [] g bs ts = omega arith
 evaluate-calls-snoc k (x ∷ gs) g bs ts =

@@ -49,8 +49,8 @@ module _ (γ : Garbling) where
       (openStep (schemeOf (γ .scheme)) (recordOf γ (kindOf (g .code)) (siteOf γ xs g) ++ rest) ts g)
   unfolding gateValue zeroStep openStep siteOf
   gate-keeps {vs} {xs} {ts} l g h rest =
-      let A = hold-at l (g .a - 1) (omega arith) in
-      let B = hold-at l (g .b - 1) (omega arith) in
+      let A = hold-at l (g .a .0 - 1) (omega arith) in
+      let B = hold-at l (g .b .0 - 1) (omega arith) in
       record {
         bit = value-bit _ _ _;
         wide = unfold zeroStep siteOf in (zero-step-wide γ xs g);

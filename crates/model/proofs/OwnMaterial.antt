@@ -129,7 +129,7 @@ module _ (γ : Garbling) (low : 1 ≤ γ .scheme) (high : γ .scheme ≤ 3) (few
   before k = wires (zeroStep γ) (take k gs) (inputZeros γ)
 
   gate : ℕ → Gate
-  gate k = getD gs k (record { a = 0; b = 0; code = 0 })
+  gate k = getD gs k (record { a = record { 0 = 0 }; b = record { 0 = 0 }; code = 0 })
 
   before-many : (k : ℕ) → k < length gs → length (before k) ≡ γ .circuit .n + k
   unfolding before
@@ -142,7 +142,7 @@ module _ (γ : Garbling) (low : 1 ≤ γ .scheme) (high : γ .scheme ≤ 3) (few
   unfolding material front before gate records
   cut-at-gate k h =
       let recs =
-      ap (λ (x : List Gate). records γ x (inputZeros γ)) (split-at gs k (record { a = 0; b = 0; code = 0 }) h)
+      ap (λ (x : List Gate). records γ x (inputZeros γ)) (split-at gs k (record { a = record { 0 = 0 }; b = record { 0 = 0 }; code = 0 }) h)
       ∙ records-append γ (take k gs) (gate k ∷ drop (suc k) gs) (inputZeros γ) in
       (records γ (drop (suc k) gs) (before k ++ (zeroStep γ (before k) (gate k) ∷ [])) ++ lastRecord γ, rw recs (simp append-assoc))
 

@@ -16,12 +16,12 @@ use Rattle.model.proofs.OwnMaterial.{two-back}
 
 -- what stands past the end of a list of gates
 abbrev pub noGate : Gate
-noGate = record { a = 0; b = 0; code = 0 }
+noGate = record { a = record { 0 = 0 }; b = record { 0 = 0 }; code = 0 }
 
 -- "n, m and operands have 16 bits"
 pub record GateFits (g : Gate) : Type 0 where
-  pub a-fits : g .a ≤ 65535
-  pub b-fits : g .b ≤ 65535
+  pub a-fits : g .a .0 ≤ 65535
+  pub b-fits : g .b .0 ≤ 65535
 
 -- ---- the records
 
@@ -80,8 +80,8 @@ module _ (n m : ℕ) (gs : List Gate) where
           byte-at k 4 h (omega arith),
           byte-at k 5 h (omega arith),
           byte-at k 6 h (omega arith),
-          two-back (g .a) (fits .a-fits),
-          two-back (g .b) (fits .b-fits),
+          two-back (g .a .0) (fits .a-fits),
+          two-back (g .b .0) (fits .b-fits),
         )
 
   module _ (n-fits : n ≤ 65535) (m-fits : m ≤ 65535) (few : length gs ≤ 65535) where

@@ -78,5 +78,5 @@ module _ (k : ℕ) where
   unfoldable pub evaluateCalls : List Gate → List ℕ → List Block → ℕ
   evaluateCalls [] bs ts = 0
   evaluateCalls (g ∷ gs) bs ts =
-      evaluateCallsAt (kindOf (g .code)) (own ts) (wire (block 0) ts (g .a)) (wire (block 0) ts (g .b))
+      evaluateCallsAt (kindOf (g .code)) (own ts) (wire (block 0) ts (g .a .0)) (wire (block 0) ts (g .b .0))
       + evaluateCalls gs (past (schemeOf k) (kindOf (g .code)) bs) (ts ++ (openStep (schemeOf k) bs ts g ∷ []))

@@ -40,7 +40,7 @@ kindOf code = getD kinds code refused
 
 -- the code of gate k of a circuit, from 0; past its gates a code that is refused
 unfoldable pub codeAt : Circuit → ℕ → ℕ
-codeAt c k = getD (c .gates) k (record { a = 0; b = 0; code = 0 }) .code
+codeAt c k = getD (c .gates) k (record { a = record { 0 = 0 }; b = record { 0 = 0 }; code = 0 }) .code
 
 -- how much a gate adds to p
 abbrev pub charge : Kind → ℕ
@@ -74,7 +74,7 @@ abbrev pub recordAt : ℕ → ℕ
 recordAt k = 8 + 7 * k
 
 unfoldable pub gateAt : List ℕ → ℕ → Gate
-gateAt s k = record { a = be16 s (recordAt k + 2); b = be16 s (recordAt k + 4); code = getD s (recordAt k + 6) 0 }
+gateAt s k = record { a = record { 0 = be16 s (recordAt k + 2) }; b = record { 0 = be16 s (recordAt k + 4) }; code = getD s (recordAt k + 6) 0 }
 
 -- "The last m wires are the outputs."
 unfoldable pub lastWires : ℕ → ℕ → ℕ → List ℕ
@@ -96,7 +96,7 @@ sizesHold n m q = leb 2 n && leb n 4096 && leb 1 m && leb m q && leb 1 q && leb 
 
 -- "1 ≤ a < b < the gate's own wire number"
 unfoldable pub operandsHold : ℕ → Gate → Bool
-operandsHold own g = leb 1 (g .a) && ltb (g .a) (g .b) && ltb (g .b) own
+operandsHold own g = leb 1 (g .a .0) && ltb (g .a .0) (g .b .0) && ltb (g .b .0) own
 
 -- the wire number of gate k, from 0: "one wire per gate, n+1 to n+q in file order"
 abbrev pub gateWire : ℕ → ℕ → ℕ
@@ -106,7 +106,7 @@ gateWire n k = n + k + 1
 
 -- a gate's record
 unfoldable pub gateBytes : Gate → List ℕ
-gateBytes g = 0x43 ∷ 0x47 ∷ two (g .a) ++ two (g .b) ++ (g .code ∷ [])
+gateBytes g = 0x43 ∷ 0x47 ∷ two (g .a .0) ++ two (g .b .0) ++ (g .code ∷ [])
 
 unfoldable pub recordBytes : List Gate → List ℕ
 recordBytes [] = []
@@ -129,7 +129,7 @@ wires step (g ∷ gs) ws = wires step gs (ws ++ (step ws g ∷ []))
 
 -- "a gate's wire the value that its code has for the bits on a and b"
 unfoldable pub gateValue : List ℕ → Gate → ℕ
-gateValue vs g = value (g .code) (wire 0 vs (g .a)) (wire 0 vs (g .b))
+gateValue vs g = value (g .code) (wire 0 vs (g .a .0)) (wire 0 vs (g .b .0))
 
 -- "an input wire carries its bit of the value list": the values on all wires
 unfoldable pub plainValues : Circuit → List ℕ → List ℕ

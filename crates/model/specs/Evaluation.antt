@@ -2,11 +2,10 @@
 use Prim.Native.Nat.{ℕ, zero, suc, _+_, _*_, _-_}
 use mathlib.Core.List.{List, [], _∷_, _++_, map}
 use lib.ListN.{length, getD, take, drop}
-use lib.Bits.{differ}
 use Rattle.model.specs.declared.Gate.{Gate}
 use Rattle.model.specs.Circuit.{Circuit, Kind, charged, free, refused, kindOf, wire}
 use Rattle.model.specs.Aes.{Block, block}
-use Rattle.model.specs.Tokens.{colour, freeToken}
+use Rattle.model.specs.Tokens.{colour, decoded, freeToken}
 use Rattle.model.specs.Scheme.{Scheme}
 use Rattle.model.specs.Garbling.{own, schemeOf}
 use Rattle.model.specs.Material.{joinBlocks}
@@ -32,7 +31,7 @@ module _ (S : Scheme) where
   openAt refused g bs A B = block 0
 
   unfoldable pub openStep : List ℕ → List Block → Gate → Block
-  openStep bs ts g = openAt (kindOf (g .code)) (own ts) bs (wire (block 0) ts (g .a)) (wire (block 0) ts (g .b))
+  openStep bs ts g = openAt (kindOf (g .code)) (own ts) bs (wire (block 0) ts (g .a .0)) (wire (block 0) ts (g .b .0))
 
   -- what is left past the gate's record: mark and wire number, 4 bytes, and its rows
   unfoldable pub past : Kind → List ℕ → List ℕ
@@ -53,7 +52,7 @@ evaluate c ts material = run (schemeOf (getD material 2 0)) (c .gates) (drop 9 m
 
 unfoldable pub decodeWith : List Block → List ℕ → List ℕ
 decodeWith [] ds = []
-decodeWith (t ∷ ts) ds = differ (colour t) (getD ds 0 0) ∷ decodeWith ts (drop 1 ds)
+decodeWith (t ∷ ts) ds = decoded (colour t) (getD ds 0 0) ∷ decodeWith ts (drop 1 ds)
 
 -- the material's last bytes, one for each output
 unfoldable pub decode : Circuit → List Block → List ℕ → List ℕ

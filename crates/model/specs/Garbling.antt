@@ -29,8 +29,8 @@ module _ (γ : Garbling) where
     fresh = seedBlock γ (own xs);
     g = own xs;
     code = g .code;
-    Xa = wire (block 0) xs (g .a);
-    Xb = wire (block 0) xs (g .b);
+    Xa = wire (block 0) xs (g .a .0);
+    Xb = wire (block 0) xs (g .b .0);
   }
 
   -- the zero token of a gate's wire

@@ -1,11 +1,10 @@
 -- Document 01, "Scheme 1, GaX", over any dual-key cipher E.
 use Prim.Native.Nat.{ℕ, _+_, _*_}
 use mathlib.Core.List.{List, [], _∷_}
-use lib.Bits.{differ}
 use lib.ListN.{getD}
 use Rattle.model.specs.Circuit.{value}
 use Rattle.model.specs.Aes.{Block, _⊕_, block, times, double, quadruple, π}
-use Rattle.model.specs.Tokens.{colour}
+use Rattle.model.specs.Tokens.{colour, decoded}
 use Rattle.model.specs.Scheme.{Site, Scheme}
 
 -- "E(A,B,T,Z) = π(K) ⊕ K ⊕ Z, K = 2A ⊕ 4B ⊕ T" (source 000, Fig. 1, A2)
@@ -17,7 +16,7 @@ dualKey a b t z = π (keyBlock a b t) ⊕ keyBlock a b t ⊕ z
 
 -- The operands' tokens of colours c and d carry the truth values c ⊕ colour of Xa and d ⊕ colour of Xb, since R has colour 1.
 unfoldable pub carried : Block → ℕ → ℕ
-carried x c = differ c (colour x)
+carried x c = decoded c (colour x)
 
 -- the token of colour c on a wire of zero token x
 unfoldable pub tokenOf : Block → Block → ℕ → Block

@@ -1,6 +1,7 @@
 -- Document 01, "Tokens".
 use Prim.Native.Nat.{ℕ, _+_, _*_, _/_, _%_}
 use mathlib.Core.List.{List}
+use lib.Bits.{differ}
 use lib.ListN.{getD, set}
 use Rattle.model.specs.Bytes.{tabulate}
 use Rattle.model.specs.Circuit.{Circuit, circuitOf}
@@ -19,6 +20,10 @@ garblingOf c seed scheme = record { circuit = circuitOf c; seed = seed; scheme =
 -- "the lowest bit of its last byte"
 unfoldable pub colour : Block → ℕ
 colour t = getD t 15 0 % 2
+
+-- the truth value that a token of colour c carries on a wire whose zero token has colour x, since R has colour 1
+abbrev pub decoded : ℕ → ℕ → ℕ
+decoded c x = differ c x
 
 -- a block "with its colour set to 1"
 unfoldable pub coloured : Block → Block

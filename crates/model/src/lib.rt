@@ -1,6 +1,7 @@
 // The types of document 01. No work is done here: specs/ says what is meant, and the crates above are proved against it.
 
-// A wire number, from 1 (01, Circuit).
+// A wire number, from 1 (01, Circuit). It lies as in C, since `Gate` has two of them.
+#[repr(C)]
 pub struct Wire(pub u16);
 
 // A truth value, 0 or 1: what the plain circuit carries on a wire (01, Circuit; "semantics" in source 000).
@@ -9,12 +10,12 @@ pub struct Truth(pub u8);
 // The colour of a token, 0 or 1 (01, Tokens; the permute bit, "type" in source 000). It is not a truth value.
 pub struct Colour(pub u8);
 
-// A gate as a circuit has it: two operands, which are wire numbers, and a code, which is its truth table (01, Circuit).
+// A gate as a circuit has it: two operands, which are wires, and a code, which is its truth table (01, Circuit).
 // Its fields lie as in C, so that a caller in C can hand in a list of them.
 #[repr(C)]
 pub struct Gate {
-    pub a: u16,
-    pub b: u16,
+    pub a: Wire,
+    pub b: Wire,
     pub code: u8,
 }
 
@@ -22,8 +23,8 @@ pub struct Gate {
 pub enum Kind {
     // An AND-type gate: the pair u, v of truth values that has a value of its own, and that value.
     Charged(Truth, Truth, Truth),
-    // A free-XOR gate: its value is pu ⊕ qv ⊕ c, with p, q and c 0 or 1.
-    Free { p: u8, q: u8, c: u8 },
+    // A free-XOR gate: its value is pu ⊕ qv ⊕ c. c is its value at 0,0, and p and q are by how much it changes with u and with v.
+    Free { p: Truth, q: Truth, c: Truth },
     Refused,
 }
 

@@ -1,14 +1,13 @@
--- Bits: a block under a mask, and what is 0 or 1: a colour, the truth value that it carries, a gate's value, a charged code's pair. Assumes nothing.
+-- Bits: a block under a mask, the truth value that a colour carries, and what is 0 or 1: a colour, a gate's value, a charged code's pair. Assumes nothing.
 use mathlib.Core.Path.{_≡_, ap₂, _∙_}
 use Prim.Native.Nat.{ℕ, zero, suc, _+_, _*_, _^_, _≤_, _<_}
 use native.Mathlib.Omega.{arith}
-use lib.Bits.{bitAnd, bitXor, and-mask, and-zero-r, xor-lt}
+use lib.Bits.{bitAnd, and-mask, and-zero-r}
 use Rattle.model.specs.Bytes.{bytesOf}
 use Rattle.model.specs.Circuit.{charged, kindOf, value}
 use Rattle.model.specs.Aes.{Block, block, times}
-use Rattle.model.specs.Tokens.{colour}
+use Rattle.model.specs.Tokens.{colour, decoded}
 use Rattle.model.specs.Gax.{carried}
-use Rattle.model.proofs.Xor.{xor-digit}
 use Rattle.model.proofs.Bits.{Bit, b0, b1}
 use Rattle.model.proofs.Tokens.{colour-bit}
 use Rattle.model.proofs.Codes.{value-bit, charged-own-pair}
@@ -31,12 +30,9 @@ module _ (x : Block) (d : ℕ) (is-d : d ≡ colour x) where
   colour-low = rw is-d (low (colour-bit x))
 
   -- and the truth value that the colour c carries on a wire of zero token x
-  pub is-carried : (c : ℕ) → c ≤ 1 → bitXor c d ≡ carried x c
+  pub is-carried : (c v : ℕ) → v ≡ decoded c d → v ≡ carried x c
   unfolding carried
-  is-carried c h = rw (← is-d) (xor-digit c d (omega arith) (omega (arith, colour-low)))
-
-  pub carried-low : (c : ℕ) → c ≤ 1 → bitXor c d ≤ 1
-  carried-low c h = omega (arith, xor-lt 1 c d (omega arith) (omega (arith, colour-low)))
+  is-carried c v is-v = rw is-d at is-v
 
 -- the number of a row, from the colours c and d of two tokens
 pub row-within : (x y : Block) (c d : ℕ) → c ≡ colour x → d ≡ colour y → 2 * c + d ≤ 3

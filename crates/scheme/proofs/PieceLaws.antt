@@ -1,5 +1,5 @@
 -- A law for each part of a gate: what its pieces are makes it what the scheme defines. Assumes nothing.
-use Prim.Native.Nat.{ℕ, _+_, _*_}
+use Prim.Native.Nat.{ℕ, _+_, _*_, _-_}
 use mathlib.Core.Path.{_≡_, sym, ap}
 use Rattle.model.specs.Aes.{Block, _⊕_, times, block, π, double, quadruple}
 use Rattle.model.specs.Circuit.{value}
@@ -83,9 +83,9 @@ pub hash-is : (x : Block) (i : ℕ) (k p h : Block) → k ≡ hashBlock x i → 
 unfolding hash
 hash-is x i k p h is-k is-p is-h = rw (is-h, is-p, is-k)
 
--- x and u times R
-pub offset-is : (x r y a : Block) (u : ℕ) → a ≡ x ⊕ y → y ≡ times u r → a ≡ x ⊕ times u r
-offset-is x r y a u is-a is-y = rw (is-a, is-y)
+-- x and 1-u times R
+pub offset-is : (x r y a : Block) (u v : ℕ) → a ≡ x ⊕ y → y ≡ times v r → v ≡ 1 - u → a ≡ x ⊕ times (1 - u) r
+offset-is x r y a u v is-a is-y is-v = rw (is-a, is-y, is-v)
 
 -- a half-gate's row, from the hashes of x and of x ⊕ R
 pub half-row-is : (r x y z hx hy v row : Block) (i : ℕ) → row ≡ hx ⊕ v → hx ≡ hash x i → v ≡ hy ⊕ z → hy ≡ hash y i → y ≡ x ⊕ r

@@ -3,6 +3,8 @@ use aes::permute_fast;
 use aes::permute_pair;
 use block::Block;
 use block::Halves;
+use model::Colour;
+use model::Truth;
 ghost use mathlib.Core.Path.{_≡_};
 ghost use Prim.Native.Nat.{_≤_};
 ghost use Rattle.aes.specs.Tables.{IsTTables};
@@ -12,7 +14,8 @@ ghost use Rattle.scheme.specs.Garbled.{maskOf, AnswersAre};
 ghost use Rattle.model.specs.HalfGates.{hashBlock, hash};
 
 // "A bit times a block is the block or zero" (01, Scheme 3): by a mask, since a colour is as good as random and a branch on it costs more.
-pub fn times(b: Block, bit: u8) -> Block
+// Whoever multiplies has a truth value or a colour, and says so by the two functions below.
+fn times_bit(b: Block, bit: u8) -> Block
     requires { ⌜ bit ≤ 1 ⌝ }
     ensures { λ r. ⌜ r .bytes ≡ times bit (b .bytes) ⌝ }
 {
@@ -23,6 +26,22 @@ pub fn times(b: Block, bit: u8) -> Block
         low: x.low & mask,
     };
     y.block()
+}
+
+// A truth value times a block.
+pub fn times_truth(b: Block, t: Truth) -> Block
+    requires { ⌜ t .0 ≤ 1 ⌝ }
+    ensures { λ r. ⌜ r .bytes ≡ times (t .0) (b .bytes) ⌝ }
+{
+    times_bit(b, t.0)
+}
+
+// A colour times a block.
+pub fn times_colour(b: Block, c: Colour) -> Block
+    requires { ⌜ c .0 ≤ 1 ⌝ }
+    ensures { λ r. ⌜ r .bytes ≡ times (c .0) (b .bytes) ⌝ }
+{
+    times_bit(b, c.0)
 }
 
 // "K = 2A ⊕ 4B ⊕ T" (01, Scheme 1), from 2A and 4B.

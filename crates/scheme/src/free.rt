@@ -1,22 +1,23 @@
-// Free gates (01, Tokens): the value is pu ⊕ qv ⊕ c, with p, q and c 0 or 1.
-use crate::cipher::times;
+// Free gates (01, Tokens): the value is pu ⊕ qv ⊕ c, where p, q and c are truth values.
+use crate::cipher::times_truth;
 use block::Block;
+use model::Truth;
 ghost use mathlib.Core.Path.{_≡_};
 ghost use Prim.Native.Nat.{_≤_};
 ghost use Rattle.model.specs.Tokens.{freeZero, freeToken};
 
 // The gate's zero token: p times Xa ⊕ q times Xb ⊕ c times R.
-pub fn free_zero(p: u8, q: u8, c: u8, r: Block, xa: Block, xb: Block) -> Block
-    requires { ⌜ (p ≤ 1) × (q ≤ 1) × (c ≤ 1) ⌝ }
-    ensures { λ x. ⌜ x .bytes ≡ freeZero p q c (r .bytes) (xa .bytes) (xb .bytes) ⌝ }
+pub fn free_zero(p: Truth, q: Truth, c: Truth, r: Block, xa: Block, xb: Block) -> Block
+    requires { ⌜ (p .0 ≤ 1) × (q .0 ≤ 1) × (c .0 ≤ 1) ⌝ }
+    ensures { λ x. ⌜ x .bytes ≡ freeZero (p .0) (q .0) (c .0) (r .bytes) (xa .bytes) (xb .bytes) ⌝ }
 {
-    times(xa, p).xor(times(xb, q).xor(times(r, c)))
+    times_truth(xa, p).xor(times_truth(xb, q).xor(times_truth(r, c)))
 }
 
 // Its token, from the tokens held on its operands.
-pub fn free_token(p: u8, q: u8, a: Block, b: Block) -> Block
-    requires { ⌜ (p ≤ 1) × (q ≤ 1) ⌝ }
-    ensures { λ x. ⌜ x .bytes ≡ freeToken p q (a .bytes) (b .bytes) ⌝ }
+pub fn free_token(p: Truth, q: Truth, a: Block, b: Block) -> Block
+    requires { ⌜ (p .0 ≤ 1) × (q .0 ≤ 1) ⌝ }
+    ensures { λ x. ⌜ x .bytes ≡ freeToken (p .0) (q .0) (a .bytes) (b .bytes) ⌝ }
 {
-    times(a, p).xor(times(b, q))
+    times_truth(a, p).xor(times_truth(b, q))
 }

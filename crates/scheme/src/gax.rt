@@ -6,8 +6,9 @@ use crate::Site;
 use crate::cipher::Answers;
 use crate::cipher::dual_key;
 use crate::cipher::dual_pair;
-use crate::cipher::times;
+use crate::cipher::times_truth;
 use block::Block;
+use block::decoded;
 use circuit::code::code_value;
 use model::Colour;
 use model::Truth;
@@ -22,12 +23,12 @@ ghost use Rattle.model.specs.Gaxr.{reducedZero, gaxr};
 ghost use Rattle.model.specs.Calls.{sealings, sealingHeld};
 ghost use Rattle.scheme.specs.Garbled.{site, AnswersAre, GarbledIs, OpenedIs};
 
-// The truth value that the token of colour c carries on a wire of zero token x: R has colour 1.
+// The truth value that the token of colour c carries on a wire of zero token x.
 fn carried(x: Block, c: Colour) -> Truth
     requires { ⌜ c .0 ≤ 1 ⌝ }
     ensures { λ r. ⌜ (r .0 ≡ carried (x .bytes) (c .0)) × (r .0 ≤ 1) ⌝ }
 {
-    Truth(c.0 ^ x.colour().0)
+    decoded(c, x.colour())
 }
 
 // The token of colour c on a wire of zero token x.
@@ -36,7 +37,7 @@ fn token_of(r: Block, x: Block, c: Colour) -> Block
     ensures { λ a. ⌜ a .bytes ≡ tokenOf (r .bytes) (x .bytes) (c .0) ⌝ }
 {
     let v = carried(x, c);
-    x.xor(times(r, v.0))
+    x.xor(times_truth(r, v))
 }
 
 // The gate's value for the truth values that the operands' tokens of colours c and d carry.
@@ -86,7 +87,7 @@ fn row(s: Site, x: Block, c: Colour, d: Colour, mask: Block) -> Block
     ensures { λ r. ⌜ r .bytes ≡ rowAt dualKey (site s) (x .bytes) (c .0) (d .0) ⌝ }
 {
     let v = value_at(s, c, d);
-    mask.xor(x.xor(times(s.r, v.0)))
+    mask.xor(x.xor(times_truth(s.r, v)))
 }
 
 // Scheme 1: the zero token is AES under the seed of block g, and there are four rows, of one call of π each.
@@ -120,7 +121,7 @@ fn reduced_zero(s: Site, mask: Block) -> Block
     ensures { λ r. ⌜ r .bytes ≡ reducedZero dualKey (site s) ⌝ }
 {
     let v = value_at(s, Colour(0), Colour(0));
-    mask.xor(times(s.r, v.0))
+    mask.xor(times_truth(s.r, v))
 }
 
 // Scheme 2: row 0, of colours 0,0, gives the zero token and is not stored; rows 1 to 3 are. Four calls of π.

@@ -3,7 +3,8 @@ use crate::GarbledGate;
 use crate::OpenedGate;
 use crate::Site;
 use crate::cipher::hash_pair;
-use crate::cipher::times;
+use crate::cipher::times_colour;
+use crate::cipher::times_truth;
 use block::Block;
 use model::Truth;
 use model::Wire;
@@ -24,12 +25,20 @@ struct HalfGate {
     calls: usize,
 }
 
+// 1-u, the other truth value.
+fn complement(u: Truth) -> Truth
+    requires { ⌜ u .0 ≤ 1 ⌝ }
+    ensures { λ r. ⌜ (r .0 ≡ 1 - u .0) × (r .0 ≤ 1) ⌝ }
+{
+    Truth(1 - u.0)
+}
+
 // x ⊕ (1-u)R. α, β and γ are 1 less u, v and the pair's own value: so this makes A of Xa and B of Xb, and adds γR to X of the gate.
 fn offset_unless(x: Block, r: Block, u: Truth) -> Block
     requires { ⌜ u .0 ≤ 1 ⌝ }
     ensures { λ a. ⌜ a .bytes ≡ x .bytes ⊕ times (1 - u .0) (r .bytes) ⌝ }
 {
-    x.xor(times(r, 1 - u.0))
+    x.xor(times_truth(r, complement(u)))
 }
 
 // The row H(x,i) ⊕ H(x⊕R,i) ⊕ z: two calls of π.
@@ -51,7 +60,7 @@ fn join(ha: Block, hb: Block, g: Block, e: Block, a: Block, b: Block) -> Block
 {
     let s = a.colour();
     let t = b.colour();
-    ha.xor(times(g, s.0).xor(hb.xor(times(e.xor(a), t.0))))
+    ha.xor(times_colour(g, s).xor(hb.xor(times_colour(e.xor(a), t))))
 }
 
 // Scheme 3: the rows G and E, by four calls of π. The pair u, v of truth values has a value of its own, own.
@@ -74,7 +83,7 @@ pub fn garble_half(
     let b = offset_unless(s.xb, r, v);
     let j = 2 * (s.g.0 as u64);
     let k = j + 1;
-    let generator = half_gate(m, w, r, a, j, times(r, b.colour().0));
+    let generator = half_gate(m, w, r, a, j, times_colour(r, b.colour()));
     let evaluator = half_gate(m, w, r, b, k, a);
     let row_g = generator.row;
     let row_e = evaluator.row;

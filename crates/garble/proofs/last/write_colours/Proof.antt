@@ -7,7 +7,7 @@ use Rattle.garble.proofs.last.write_colours.Statement.{statement}
 use Rattle.garble.proofs.last.write_colours.Tie as tie
 
 abbrev Inv-loop : tie.InvT-loop
-Inv-loop zeros first m material₀ at i₀ material i = Writing (λ j. colour (tokenAt zeros (first + j))) m at material₀ i material
+Inv-loop zeros first m material₀ at i₀ material i = Writing (λ j. colour (tokenAt zeros (first .0 + j))) m at material₀ i material
 
 abbrev μ-loop : tie.MeasureT-loop
 μ-loop zeros first m material₀ at i₀ material i = m - i

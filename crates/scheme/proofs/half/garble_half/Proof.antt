@@ -23,7 +23,7 @@ returns c =
     let d = e .before .before .before in
     let a = d .before .before .before in
     half-garbled _ _ _ _ (a .before .before .before .pre .1 .1) _ _ (a .offset-unless .ensures) (d .before .before .offset-unless2 .ensures) _ (d .colour .ensures)
-    _ (e .before .before .times .ensures) _ _ (e .before .half-gate .ensures) (e .half-gate2 .ensures) _ (j .join .ensures) _ (none .before .offset-unless3 .ensures) _
+    _ (e .before .before .times-colour .ensures) _ _ (e .before .half-gate .ensures) (e .half-gate2 .ensures) _ (j .join .ensures) _ (none .before .offset-unless3 .ensures) _
 
 pub garble-half-spec : {M : Type 1} → statement M
 garble-half-spec =
