@@ -16,7 +16,7 @@ module _ (c x : ℕ) (hc : c ≤ 1) (hx : x ≤ 1) where
   decoded-low = omega (arith, xor-lt 1 c x (omega arith) (omega arith))
 
 returns : tie.Need-returns
-returns c = (is-decoded _ _ (c .pre .0) (c .pre .1), decoded-low _ _ (c .pre .0) (c .pre .1))
+returns c = (search is-decoded, search decoded-low)
 
 pub decoded-spec : {M : Type 1} → statement M
 decoded-spec = tie.close (tie.spec returns)
