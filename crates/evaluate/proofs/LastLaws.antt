@@ -4,16 +4,14 @@ use native.Mathlib.Numerals.{add-one}
 use native.Mathlib.Omega.{arith}
 use mathlib.Core.Path.{_≡_, refl, ap, _∙_}
 use mathlib.Core.List.{List, [], _∷_, _++_}
-use lib.Bits.{bitXor, differ}
 use lib.ListN.{length, getD, take, drop, set, length-set}
 use lib.Seq.{getD-drop}
 use Rattle.model.specs.Bytes.{over}
 use Rattle.model.specs.Aes.{Block}
-use Rattle.model.specs.Tokens.{colour}
+use Rattle.model.specs.Tokens.{colour, decoded}
 use Rattle.model.specs.Evaluation.{cut, decodeWith}
 use Rattle.model.proofs.Blocks.{cut-length, cut-snoc}
 use Rattle.model.proofs.Buffers.{over-none, over-set}
-use Rattle.model.proofs.Xor.{xor-digit}
 use Rattle.evaluate.specs.Last.{LastStart}
 
 decode-length : (xs : List Block) (ds : List ℕ) → length (decodeWith xs ds) ≡ length xs
@@ -21,7 +19,7 @@ unfolding decodeWith
 decode-length [] ds = refl
 decode-length (x ∷ xs) ds = ap suc (decode-length xs (drop 1 ds))
 
-decode-snoc : (xs : List Block) (x : Block) (ds : List ℕ) → decodeWith (xs ++ (x ∷ [])) ds ≡ decodeWith xs ds ++ (differ (colour x) (getD ds (length xs) 0) ∷ [])
+decode-snoc : (xs : List Block) (x : Block) (ds : List ℕ) → decodeWith (xs ++ (x ∷ [])) ds ≡ decodeWith xs ds ++ (decoded (colour x) (getD ds (length xs) 0) ∷ [])
 unfolding decodeWith
 decode-snoc [] x ds = refl
 decode-snoc (y ∷ xs) x ds =
@@ -30,11 +28,11 @@ decode-snoc (y ∷ xs) x ds =
 
 -- one output more
 decode-more : (i : ℕ) (ts ds : List ℕ)
-    → decodeWith (cut (suc i) ts) ds ≡ decodeWith (cut i ts) ds ++ (differ (colour (take 16 (drop (16 * i) ts))) (getD ds i 0) ∷ [])
+    → decodeWith (cut (suc i) ts) ds ≡ decodeWith (cut i ts) ds ++ (decoded (colour (take 16 (drop (16 * i) ts))) (getD ds i 0) ∷ [])
 decode-more i ts ds =
     ap (λ (xs : List Block). decodeWith xs ds) (cut-snoc i ts)
     ∙ decode-snoc (cut i ts) _ ds
-    ∙ ap (λ (k : ℕ). decodeWith (cut i ts) ds ++ (differ (colour (take 16 (drop (16 * i) ts))) (getD ds k 0) ∷ [])) (cut-length i ts)
+    ∙ ap (λ (k : ℕ). decodeWith (cut i ts) ds ++ (decoded (colour (take 16 (drop (16 * i) ts))) (getD ds k 0) ∷ [])) (cut-length i ts)
 
 -- d is the buffer after i outputs of m, and o at the start
 pub record Decoding (m : ℕ) (ts s o : List ℕ) (i : ℕ) (d : List ℕ) : Type 0 where
@@ -57,13 +55,14 @@ module _ (m : ℕ) (ts s o : List ℕ) where
     pub decode-write : i < m → i < length d
     decode-write h = omega (arith, start .room, inv .same-length)
 
-    pub decode-turn : i < m → (x : Block) (b : ℕ) → x ≡ take 16 (drop (16 * i) ts) → b ≡ colour x
-        → Decoding m ts s o (i + 1) (set d i (bitXor b (getD s (length s - m + i) 0)))
-    decode-turn h x b is-x is-b =
+    pub decode-zero : i < m → getD s (length s - m + i) 0 ≤ 1
+    decode-zero h = start .bits i h
+
+    pub decode-turn : i < m → (x : Block) (b v : ℕ) → x ≡ take 16 (drop (16 * i) ts) → b ≡ colour x → v ≡ decoded b (getD s (length s - m + i) 0)
+        → Decoding m ts s o (i + 1) (set d i v)
+    decode-turn h x b v is-x is-b is-v =
         let ds : List ℕ = drop (length s - m) s in
-        let low : b ≤ 1 = rw is-b (unfold colour in (omega arith)) in
-        let e : bitXor b (getD s (length s - m + i) 0) ≡ differ (colour (take 16 (drop (16 * i) ts))) (getD ds i 0) =
-        xor-digit b _ (omega arith) (omega (arith, start .bits i h)) ∙ rw (getD-drop (length s - m) s i 0, ← is-x, ← is-b) in
+        let e : v ≡ decoded (colour (take 16 (drop (16 * i) ts))) (getD ds i 0) = is-v ∙ rw (getD-drop (length s - m) s i 0, ← is-x, ← is-b) in
         record {
           within = omega arith;
           same-length = simp length-set (inv .same-length);
@@ -75,4 +74,4 @@ module _ (m : ℕ) (ts s o : List ℕ) where
     pub decode-end : m ≤ i → d ≡ over (decodeWith (cut m ts) (drop (length s - m) s)) o
     decode-end h = let w = inv .within in let e : i ≡ m = omega arith in rw e at (inv .so-far)
 
-pub ruleset decode-turns = (decode-start, decode-load, decode-byte, decode-write, decode-turn, decode-end)
+pub ruleset decode-turns = (decode-start, decode-load, decode-byte, decode-write, decode-zero, decode-turn, decode-end)

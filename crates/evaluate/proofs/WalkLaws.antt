@@ -75,16 +75,16 @@ module _ (n k : ℕ) (g : Gate) (d : List ℕ) (start : Operands n k g d) where
   pub token-own : Fits w16 (n + k + 1)
   token-own = omega (arith, start .few)
 
-  pub token-low-b : 1 ≤ g .b
+  pub token-low-b : 1 ≤ g .b .0
   token-low-b = omega (arith, start .a-low, start .order)
 
-  pub token-load-a : 16 * (g .a - 1) + 16 ≤ length d
+  pub token-load-a : 16 * (g .a .0 - 1) + 16 ≤ length d
   token-load-a = omega (arith, start .a-low, start .order, start .b-high, start .token-room)
 
-  pub token-load-b : 16 * (g .b - 1) + 16 ≤ length d
+  pub token-load-b : 16 * (g .b .0 - 1) + 16 ≤ length d
   token-load-b = omega (arith, start .order, start .b-high, start .token-room)
 
-module _ (n k : ℕ) (g : Gate) (d : List ℕ) (A B : Block) (is-A : A ≡ take 16 (drop (16 * (g .a - 1)) d)) (is-B : B ≡ take 16 (drop (16 * (g .b - 1)) d))
+module _ (n k : ℕ) (g : Gate) (d : List ℕ) (A B : Block) (is-A : A ≡ take 16 (drop (16 * (g .a .0 - 1)) d)) (is-B : B ≡ take 16 (drop (16 * (g .b .0 - 1)) d))
     (d′ : List ℕ) where
   pub free-done : (x : Block) → d′ ≡ put d (16 * (n + k)) x → Operands n k g d → charge (kindOf (g .code)) ≡ 0 → (a b : ℕ) → TakesIs (kindOf (g .code)) a b → x ≡ freeToken a b A B → FreeTokenIs n k g d d′
   unfolding tokenAt
@@ -125,7 +125,7 @@ few-made scheme n k g s at d next made d′ t =
     omega (
       arith,
       t .calls-made,
-      evaluate-calls-at scheme (kindOf (g .code)) (gateWire n k) (tokenAt d (g .a)) (tokenAt d (g .b)),
+      evaluate-calls-at scheme (kindOf (g .code)) (gateWire n k) (tokenAt d (g .a .0)) (tokenAt d (g .b .0)),
       mul-le-mul (charge-le (kindOf (g .code))) (asked-few scheme),
     )
 
@@ -280,33 +280,33 @@ module _ (c s : List ℕ) (n q : ℕ) (o : List ℕ) (start : WalkStart c s n q 
       unfolding over
       token-held w h l = rw (inv .so-far) (token-at-front held w h l _)
 
-      token-next : openAt (S s) (kindOf (gateAt c k .code)) (gateWire n k) (drop at s) (tokenAt d (gateAt c k .a)) (tokenAt d (gateAt c k .b))
+      token-next : openAt (S s) (kindOf (gateAt c k .code)) (gateWire n k) (drop at s) (tokenAt d (gateAt c k .a .0)) (tokenAt d (gateAt c k .b .0))
           ≡ openStep (S s) (drop (recordStart c s k) s) (tokensTo c s (cut n o) k) (gateAt c k)
       unfolding openStep
       token-next =
           let a = operands-held in
           let own : gateWire n k ≡ suc (length (tokensTo c s (cut n o) k)) = omega (arith, blocks-length held) in
           rw (
-            token-held (gateAt c k .a) (a .a-low) (omega (arith, a .order, a .b-high, start .is-n)),
-            token-held (gateAt c k .b) (omega (arith, a .a-low, a .order)) (omega (arith, a .b-high, start .is-n)),
+            token-held (gateAt c k .a .0) (a .a-low) (omega (arith, a .order, a .b-high, start .is-n)),
+            token-held (gateAt c k .b .0) (omega (arith, a .a-low, a .order)) (omega (arith, a .b-high, start .is-n)),
             own,
             inv .is-at,
           )
 
       -- the calls of gate k are those of the tokens held
-      calls-next : evaluateCallsAt (getD s 2 0) (kindOf (gateAt c k .code)) (gateWire n k) (tokenAt d (gateAt c k .a)) (tokenAt d (gateAt c k .b))
-          ≡ evaluateCallsAt (getD s 2 0) (kindOf (gateAt c k .code)) (suc (length (tokensTo c s (cut n o) k))) (wire (block 0) (tokensTo c s (cut n o) k) (gateAt c k .a)) (wire (block 0) (tokensTo c s (cut n o) k) (gateAt c k .b))
+      calls-next : evaluateCallsAt (getD s 2 0) (kindOf (gateAt c k .code)) (gateWire n k) (tokenAt d (gateAt c k .a .0)) (tokenAt d (gateAt c k .b .0))
+          ≡ evaluateCallsAt (getD s 2 0) (kindOf (gateAt c k .code)) (suc (length (tokensTo c s (cut n o) k))) (wire (block 0) (tokensTo c s (cut n o) k) (gateAt c k .a .0)) (wire (block 0) (tokensTo c s (cut n o) k) (gateAt c k .b .0))
       calls-next =
           let a = operands-held in
           let own : gateWire n k ≡ suc (length (tokensTo c s (cut n o) k)) = omega (arith, blocks-length held) in
           rw (
-            token-held (gateAt c k .a) (a .a-low) (omega (arith, a .order, a .b-high, start .is-n)),
-            token-held (gateAt c k .b) (omega (arith, a .a-low, a .order)) (omega (arith, a .b-high, start .is-n)),
+            token-held (gateAt c k .a .0) (a .a-low) (omega (arith, a .order, a .b-high, start .is-n)),
+            token-held (gateAt c k .b .0) (omega (arith, a .a-low, a .order)) (omega (arith, a .b-high, start .is-n)),
             own,
           )
 
       counted-next : (made : ℕ)
-          → made ≡ evaluateCallsAt (getD s 2 0) (kindOf (gateAt c k .code)) (gateWire n k) (tokenAt d (gateAt c k .a)) (tokenAt d (gateAt c k .b))
+          → made ≡ evaluateCallsAt (getD s 2 0) (kindOf (gateAt c k .code)) (gateWire n k) (tokenAt d (gateAt c k .a .0)) (tokenAt d (gateAt c k .b .0))
           → calls + made ≡ evaluateCalls (getD s 2 0) (tabulate (suc k) (gateAt c)) (drop 9 s) (cut n o)
       unfolding tokensTo
       counted-next made is-made =

@@ -20,9 +20,9 @@ use Rattle.evaluate.specs.Gate.{GateRoom}
 -- gate g is the next, k gates after n inputs, its operands stand before it and its code is not refused; d is the buffer of the tokens
 pub record Operands (n k : ℕ) (g : Gate) (d : List ℕ) : Type 0 where
   pub few : n + k < 65535
-  pub a-low : 1 ≤ g .a
-  pub order : g .a < g .b
-  pub b-high : g .b < gateWire n k
+  pub a-low : 1 ≤ g .a .0
+  pub order : g .a .0 < g .b .0
+  pub b-high : g .b .0 < gateWire n k
   pub known : isRefused (kindOf (g .code)) ≡ false
   pub token-room : 16 * (n + k) + 16 ≤ length d
 
@@ -33,9 +33,9 @@ pub record TokenStart (scheme n k : ℕ) (g : Gate) (s : List ℕ) (at : ℕ) (d
 
 -- its token, made from those of its operands in the buffer, which is d at entry and d′ at exit, and the calls of π made
 pub record TokenIs (scheme n k : ℕ) (g : Gate) (s : List ℕ) (at : ℕ) (d : List ℕ) (next calls : ℕ) (d′ : List ℕ) : Type 0 where
-  pub token-left : d′ ≡ put d (16 * (n + k)) (openAt (schemeOf scheme) (kindOf (g .code)) (gateWire n k) (drop at s) (tokenAt d (g .a)) (tokenAt d (g .b)))
+  pub token-left : d′ ≡ put d (16 * (n + k)) (openAt (schemeOf scheme) (kindOf (g .code)) (gateWire n k) (drop at s) (tokenAt d (g .a .0)) (tokenAt d (g .b .0)))
   pub is-next : next ≡ at + charge (kindOf (g .code)) * (4 + 16 * schemeOf scheme .stored)
-  pub calls-made : calls ≡ evaluateCallsAt scheme (kindOf (g .code)) (gateWire n k) (tokenAt d (g .a)) (tokenAt d (g .b))
+  pub calls-made : calls ≡ evaluateCallsAt scheme (kindOf (g .code)) (gateWire n k) (tokenAt d (g .a .0)) (tokenAt d (g .b .0))
 
 -- that of a free gate, by every scheme and over every material: the next record is still at its index, and π was not called
 pub record FreeTokenIs (n k : ℕ) (g : Gate) (d d′ : List ℕ) : Type 0 where

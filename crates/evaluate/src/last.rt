@@ -5,7 +5,9 @@ ghost use lib.ListN.{length, drop};
 ghost use Rattle.model.specs.Bytes.{over};
 ghost use Rattle.model.specs.Evaluation.{cut, decodeWith};
 ghost use Rattle.evaluate.specs.Last.{LastStart};
+use block::decoded;
 use block::load;
+use model::Colour;
 
 // The bits of m outputs, from their tokens and the last m bytes of the material.
 pub fn decode_outputs(m: usize, tokens: &[u8], material: &[u8], bits: &mut [u8])
@@ -16,8 +18,9 @@ pub fn decode_outputs(m: usize, tokens: &[u8], material: &[u8], bits: &mut [u8])
     let mut i: usize = 0;
     while i < m {
         let x = load(tokens, 16 * i);
-        let byte = material[first + i];
-        bits[i] = x.colour().0 ^ byte;
+        let zero = Colour(material[first + i]);
+        let bit = decoded(x.colour(), zero);
+        bits[i] = bit.0;
         i += 1;
     }
 }

@@ -31,8 +31,8 @@ pub fn write_free(n: usize, k: usize, g: Gate, wires: &mut [u8])
     ensures { λ _. ⌜ FreeTokenIs n k g (now (wires .entry)) (now (wires .exit)) ⌝ }
 {
     let place = 16 * (n + k);
-    let a = load(wires, 16 * (g.a as usize - 1));
-    let b = load(wires, 16 * (g.b as usize - 1));
+    let a = load(wires, 16 * (g.a.0 as usize - 1));
+    let b = load(wires, 16 * (g.b.0 as usize - 1));
     let takes = code_takes(g.code);
     store(wires, place, free_token(takes.a, takes.b, a, b));
 }
@@ -58,8 +58,8 @@ pub fn write_charged(
 {
     let place = 16 * (n + k);
     let own = Wire((n + k + 1) as u16);
-    let a = load(wires, 16 * (g.a as usize - 1));
-    let b = load(wires, 16 * (g.b as usize - 1));
+    let a = load(wires, 16 * (g.a.0 as usize - 1));
+    let b = load(wires, 16 * (g.b.0 as usize - 1));
     let made = open_charged(t, w, scheme, own, a, b, material, here.at);
     store(wires, place, made.token);
     made.calls

@@ -15,6 +15,7 @@ use cases::answer::refused;
 use cases::room;
 use check::same;
 use model::Checked;
+use model::Wire;
 
 // The 16 bytes of a field; of a field of another length, none agrees with anything.
 fn block_of(field: &[u8]) -> Block {
@@ -129,7 +130,7 @@ pub fn pick_run<'a>(
     if asked.len() != 3 {
         return false;
     }
-    let wire = read16(asked, 0);
+    let wire = Wire(read16(asked, 0));
     let bit = asked[2];
     let agreed = ran(garble::pick_check(zeros, ones, wire, bit), answer);
     agreed & same(garble::pick(zeros, ones, wire, bit), part)

@@ -6,14 +6,15 @@ use buffer::read16;
 use cases::answer::evaluated;
 use model::Evaluated;
 use model::Gate;
+use model::Wire;
 
 // The gate at an index: its operands, of 2 bytes each, and its code.
 fn gate_at(list: &[u8], at: usize) -> Gate
     requires { ⌜ at + 4 < length (now list) ⌝ }
 {
     Gate {
-        a: read16(list, at),
-        b: read16(list, at + 2),
+        a: Wire(read16(list, at)),
+        b: Wire(read16(list, at + 2)),
         code: list[at + 4],
     }
 }

@@ -12,6 +12,7 @@ use model::Checked;
 use model::Garbled;
 use model::Gate;
 use model::Ran;
+use model::Wire;
 
 pub mod answer;
 
@@ -133,7 +134,7 @@ pub extern "C" fn weighhare_pick(
 ) -> u8
     ensures { λ r. ⌜ Handed (PickIs (now (zeros .entry)) (now (ones .entry)) wire bit) partOut r (now (answer .exit)) ⌝ }
 {
-    match garble::pick_check(zeros, ones, wire, bit) {
+    match garble::pick_check(zeros, ones, Wire(wire), bit) {
         Ran::Refused(f) => refused(answer, f),
         Ran::Done => results(answer, bit as usize, 16 * (wire as usize - 1), 16, 0),
     }
