@@ -185,8 +185,8 @@ walk-val r v is = ap only (LL.tells S.the-type S′.the-laws r (v ∷ []) is)
 
 gate-fits : (g : Gate) → Is T.the-row g (T′.lowered g ∷ []) → GateFits g
 gate-fits g p =
-    let a : g .a .0 < 2 ^ 16 = LL.owed N.the-type N′.the-laws (g .a .0) _ (LL.owed T.the-type T′.the-laws g _ p .0) .0 .1 in
-    let b : g .b .0 < 2 ^ 16 = LL.owed N.the-type N′.the-laws (g .b .0) _ (LL.owed T.the-type T′.the-laws g _ p .1 .0) .0 .1 in
+    let a : g .a .0 < 2 ^ 16 = LL.owed N.the-type N′.the-laws (g .a) _ (LL.owed T.the-type T′.the-laws g _ p .0) .0 .1 in
+    let b : g .b .0 < 2 ^ 16 = LL.owed N.the-type N′.the-laws (g .b) _ (LL.owed T.the-type T′.the-laws g _ p .1 .0) .0 .1 in
     record { a-fits = omega arith; b-fits = omega arith }
 
 module _ {M : Type 1} (𝓤 : URA M) (H : Heap 𝓤) (A : Atoms 𝓤) (W : Given 𝓤 H A) (mem : Memory → SProp 𝓤) (run : Routine → Fun 𝓤)

@@ -14,7 +14,7 @@ abbrev μ-loop : tie.MeasureT-loop
 
 loop-again : tie.Need-loop-again Inv-loop μ-loop
 loop-again c =
-    colours-turn _ _ _ _ _ (c .before .before .before .before .before .before .pre) _ _ (c .before .before .before .loop .inv) (search needs) _ _ (c .before .load .ensures) (c .colour .ensures)
+    colours-turn _ _ _ _ _ (c .before .before .before .before .before .before .before .pre) _ _ (c .before .before .before .before .loop .inv) (search needs) _ _ (c .before .load .ensures) (c .colour .ensures)
 
 returns : tie.Need-returns Inv-loop μ-loop
 returns c = colours-end _ _ _ _ _ (c .before .before .before .before .pre) _ _ (c .before .loop .inv) (search needs)
@@ -23,5 +23,5 @@ pub write-colours-spec : {M : Type 1} → statement M
 write-colours-spec =
     tie.close
     (tie.spec Inv-loop μ-loop (λ c. search colours-cases) (λ c. search needs) (λ c. search needs)
-    (λ c. search needs) (λ c κs. search colours-cases) (λ c κs. search colours-cases) (λ c. search needs)
+    (λ c. search needs) (λ c. search needs) (λ c κs. search colours-cases) (λ c κs. search colours-cases) (λ c. search needs)
     (λ c. search needs) (λ c. search needs) (λ c. search needs) loop-again (λ c. search needs) returns)
