@@ -13,12 +13,11 @@ abbrev μ-loop : tie.MeasureT-loop
 
 loop-again : tie.Need-loop-again Inv-loop μ-loop
 loop-again c =
-    let told = c .before in
-    let coloured = told .before in
+    let coloured = c .before in
     let loaded = coloured .before .before in
     let loop = loaded .before .before in
     decode-turn _ _ _ _ (loop .before .before .before .before .pre) _ _ (loop .loop .inv) (search needs) _ _ _
-    (loaded .load .ensures) (coloured .colour .ensures) (told .decoded .ensures .0)
+    (loaded .load .ensures) (coloured .colour .ensures) (c .decoded .ensures .0)
 
 pub decode-outputs-spec : {M : Type 1} → statement M
 decode-outputs-spec =
