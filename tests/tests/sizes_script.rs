@@ -235,9 +235,9 @@ impl Ended {
     }
 }
 
-/// A file of a crate.
+/// A file of a crate. It has not the ending of Rattle's files: `rt` looks for those in the whole repository, here too.
 fn source(name: &str) -> String {
-    format!("a repository/crates/{name}/src/file.rt")
+    format!("a repository/crates/{name}/src/file")
 }
 
 /// An error that is seen before anything is proved.
