@@ -2,7 +2,7 @@
 ghost use mathlib.Core.Path.{_≡_};
 ghost use Prim.Native.Nat.{_+_, _<_, _≤_};
 ghost use lib.ListN.{length};
-ghost use Rattle.model.specs.Bytes.{be16, over, put};
+ghost use Rattle.model.specs.Bytes.{be16, two, over, put};
 
 // A byte as a wider number.
 fn wide(x: u8) -> u16
@@ -17,6 +17,15 @@ pub fn read16(s: &[u8], at: usize) -> u16
     ensures { λ r. ⌜ r ≡ be16 (now (s .entry)) at ⌝ }
 {
     wide(s[at]) * 256 + wide(s[at + 1])
+}
+
+// Writes the low 2 bytes of a number to an index of a buffer, the higher first.
+pub fn write16(out: &mut [u8], at: usize, value: usize)
+    requires { ⌜ at + 2 ≤ length (now out) ⌝ }
+    ensures { λ _. ⌜ now (out .exit) ≡ put (now (out .entry)) at (two value) ⌝ }
+{
+    let bytes = [(value / 256 % 256) as u8, (value % 256) as u8];
+    copy_to(&bytes, out, at);
 }
 
 // Copies bytes to the front of a buffer.

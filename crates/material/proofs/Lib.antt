@@ -10,3 +10,4 @@ pub mod LastLaws
 pub mod MaterialLaws
 pub mod WellFormed
 pub mod ReadsOn
+pub mod WriterLaws

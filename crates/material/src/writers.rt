@@ -6,6 +6,7 @@ ghost use lib.ListN.{length};
 ghost use Rattle.model.specs.Bytes.{two, over, put};
 use buffer::copy_front;
 use buffer::copy_to;
+use buffer::write16;
 use model::Wire;
 
 // The header: mark 47 48, the scheme byte, and n, m, q of 2 bytes each.
@@ -13,18 +14,11 @@ pub fn write_header(out: &mut [u8], scheme: u8, n: usize, m: usize, q: usize)
     requires { ⌜ 9 ≤ length (now out) ⌝ }
     ensures { λ _. ⌜ now (out .exit) ≡ over (0x47 ∷ 0x48 ∷ scheme ∷ two n ++ two m ++ two q) (now (out .entry)) ⌝ }
 {
-    let head = [
-        0x47,
-        0x48,
-        scheme,
-        (n / 256 % 256) as u8,
-        (n % 256) as u8,
-        (m / 256 % 256) as u8,
-        (m % 256) as u8,
-        (q / 256 % 256) as u8,
-        (q % 256) as u8,
-    ];
+    let head = [0x47, 0x48, scheme];
     copy_front(&head, out);
+    write16(out, 3, n);
+    write16(out, 5, m);
+    write16(out, 7, q);
 }
 
 // The head of a charged gate's record: mark 47 54 and the gate's own wire number. Its rows come after it.
@@ -33,8 +27,9 @@ pub fn write_record_head(out: &mut [u8], at: usize, own: Wire)
     ensures { λ _. ⌜ now (out .exit) ≡ put (now (out .entry)) at (0x47 ∷ 0x54 ∷ two (own .0)) ⌝ }
 {
     let wire = own.0;
-    let head = [0x47, 0x54, (wire / 256 % 256) as u8, (wire % 256) as u8];
+    let head = [0x47, 0x54];
     copy_to(&head, out, at);
+    write16(out, at + 2, wire as usize);
 }
 
 // The head of the last record: mark 47 44. A byte for each output comes after it.
