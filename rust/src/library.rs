@@ -1,6 +1,7 @@
-//! The functions of `libweighhare.a`, as `include/weighhare.h` declares them.
+//! The functions of `libweighhare.a`, as `include/weighhare.h` declares them. The repository's tests take in this file too, by
+//! its path, with a `Gate` of their own.
 
-use crate::Gate;
+use super::Gate;
 
 /// Four words: the place of a refusal, or an operation's results.
 pub type Answer = [u64; 4];

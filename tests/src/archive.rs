@@ -3,7 +3,7 @@
 //! take it in by its path.
 
 use second::call::{Call, Operation};
-use second::interface::{self, Answer, WORDS};
+use second::interface::{self, Answer};
 
 /// Bytes kept before and after every buffer, to see whether something was written beside it.
 const GUARD: usize = 64;
@@ -11,93 +11,12 @@ const GUARD: usize = 64;
 /// What the guards are filled with.
 const GUARD_BYTE: u8 = 0x5A;
 
-type Bytes = *const u8;
-type Out = *mut u8;
-type Words = *mut u64;
+/// The C functions, as the crate `weighhare` declares them.
+#[path = "../../rust/src/library.rs"]
+mod library;
 
-unsafe extern "C" {
-    fn weighhare_check(c: Bytes, cl: usize, answer: Words) -> u8;
-    fn weighhare_plain(
-        c: Bytes,
-        cl: usize,
-        v: Bytes,
-        vl: usize,
-        w: Out,
-        wl: usize,
-        answer: Words,
-    ) -> u8;
-    fn weighhare_garble(
-        c: Bytes,
-        cl: usize,
-        s: Bytes,
-        sl: usize,
-        scheme: u8,
-        m: Out,
-        ml: usize,
-        z: Out,
-        zl: usize,
-        o: Out,
-        ol: usize,
-        answer: Words,
-    ) -> u8;
-    fn weighhare_encode(
-        c: Bytes,
-        cl: usize,
-        v: Bytes,
-        vl: usize,
-        z: Bytes,
-        zl: usize,
-        o: Bytes,
-        ol: usize,
-        t: Out,
-        tl: usize,
-        answer: Words,
-    ) -> u8;
-    fn weighhare_evaluate(
-        c: Bytes,
-        cl: usize,
-        t: Bytes,
-        tl: usize,
-        m: Bytes,
-        ml: usize,
-        w: Out,
-        wl: usize,
-        answer: Words,
-    ) -> u8;
-    fn weighhare_evaluate_gates(
-        n: u16,
-        m: u16,
-        g: Bytes,
-        q: usize,
-        t: Bytes,
-        tl: usize,
-        m: Bytes,
-        ml: usize,
-        w: Out,
-        wl: usize,
-        answer: Words,
-    ) -> u8;
-    fn weighhare_decode(
-        c: Bytes,
-        cl: usize,
-        t: Bytes,
-        tl: usize,
-        m: Bytes,
-        ml: usize,
-        b: Out,
-        bl: usize,
-        answer: Words,
-    ) -> u8;
-    fn weighhare_pick(
-        z: Bytes,
-        zl: usize,
-        o: Bytes,
-        ol: usize,
-        wire: u16,
-        bit: u8,
-        answer: Words,
-    ) -> u8;
-}
+/// A gate record as it lies in memory: what is handed on is bytes.
+type Gate = [u8; interface::GATE];
 
 /// A buffer at a chosen distance from an address that is a multiple of 16, with guards around it.
 struct Lent {
@@ -119,7 +38,7 @@ impl Lent {
         }
     }
 
-    fn pointer(&mut self) -> Out {
+    fn pointer(&mut self) -> *mut u8 {
         self.memory[self.start..].as_mut_ptr()
     }
 
@@ -132,9 +51,9 @@ impl Lent {
     }
 }
 
-/// Runs the call on the archive, or says what it wrote that it must not. The buffers stand `skew`
-/// bytes past a multiple of 16.
-pub fn run(call: &Call, skew: usize) -> Result<Answer, String> {
+/// Runs the call on the archive in output buffers that hold these bytes before it, or says what it
+/// wrote that it must not. The buffers stand `skew` bytes past a multiple of 16.
+pub fn run(call: &Call, before: &[Vec<u8>], skew: usize) -> Result<Answer, String> {
     // Gate records are aligned to 2.
     let skew = if call.operation == Operation::EvaluateGates {
         skew & !1
@@ -144,12 +63,11 @@ pub fn run(call: &Call, skew: usize) -> Result<Answer, String> {
     let inputs = interface::inputs(call);
     let lend = |(_, bytes): &(&str, Vec<u8>)| Lent::new(bytes, skew);
     let mut lent: Vec<Lent> = inputs.iter().map(lend).collect();
-    let buffers = interface::buffers(call);
-    let mut outs: Vec<Lent> = buffers.iter().map(|bytes| Lent::new(bytes, skew)).collect();
-    let mut words = [0xA5A5_A5A5_A5A5_A5A5; WORDS];
+    let mut outs: Vec<Lent> = before.iter().map(|bytes| Lent::new(bytes, skew)).collect();
+    let mut words = [0xA5A5_A5A5_A5A5_A5A5; interface::WORDS];
     let (given, room) = (lists(&mut lent), lists(&mut outs));
     // The buffers live until the end of this function, and each has a list of its own.
-    let number = unsafe { enter(call, &given, &room, words.as_mut_ptr()) };
+    let number = unsafe { enter(call, &given, &room, &mut words) };
     for (lent, (name, bytes)) in lent.iter().zip(&inputs) {
         if lent.bytes() != Some(bytes) {
             return Err(format!("wrote to or beside the {name} handed in"));
@@ -170,7 +88,7 @@ pub fn run(call: &Call, skew: usize) -> Result<Answer, String> {
 }
 
 /// A list as a C function takes it: where it starts, and its length.
-type List = (Out, usize);
+type List = (*mut u8, usize);
 
 fn lists(lent: &mut [Lent]) -> Vec<List> {
     let list = |lent: &mut Lent| (lent.pointer(), lent.length);
@@ -180,24 +98,24 @@ fn lists(lent: &mut [Lent]) -> Vec<List> {
 /// Calls the C function, with the lists in the order of its arguments: every pointer is to as many
 /// bytes as its length says, and nothing overlaps.
 #[rustfmt::skip]
-unsafe fn enter(call: &Call, inputs: &[List], outs: &[List], answer: Words) -> u8 {
+unsafe fn enter(call: &Call, inputs: &[List], outs: &[List], answer: &mut library::Answer) -> u8 {
     unsafe { match (call.operation, inputs, outs) {
         (Operation::Check, &[(c, cl)], []) =>
-            weighhare_check(c, cl, answer),
+            library::weighhare_check(c, cl, answer),
         (Operation::Plain, &[(c, cl), (v, vl)], &[(w, wl)]) =>
-            weighhare_plain(c, cl, v, vl, w, wl, answer),
+            library::weighhare_plain(c, cl, v, vl, w, wl, answer),
         (Operation::Garble, &[(c, cl), (s, sl)], &[(m, ml), (z, zl), (o, ol)]) =>
-            weighhare_garble(c, cl, s, sl, call.scheme, m, ml, z, zl, o, ol, answer),
+            library::weighhare_garble(c, cl, s, sl, call.scheme, m, ml, z, zl, o, ol, answer),
         (Operation::Encode, &[(c, cl), (v, vl), (z, zl), (o, ol)], &[(t, tl)]) =>
-            weighhare_encode(c, cl, v, vl, z, zl, o, ol, t, tl, answer),
+            library::weighhare_encode(c, cl, v, vl, z, zl, o, ol, t, tl, answer),
         (Operation::Evaluate, &[(c, cl), (t, tl), (m, ml)], &[(w, wl)]) =>
-            weighhare_evaluate(c, cl, t, tl, m, ml, w, wl, answer),
+            library::weighhare_evaluate(c, cl, t, tl, m, ml, w, wl, answer),
         (Operation::EvaluateGates, &[(g, gl), (t, tl), (m, ml)], &[(w, wl)]) =>
-            weighhare_evaluate_gates(call.n, call.m, g, gl / interface::GATE, t, tl, m, ml, w, wl, answer),
+            library::weighhare_evaluate_gates(call.n, call.m, g.cast(), gl / interface::GATE, t, tl, m, ml, w, wl, answer),
         (Operation::Decode, &[(c, cl), (t, tl), (m, ml)], &[(b, bl)]) =>
-            weighhare_decode(c, cl, t, tl, m, ml, b, bl, answer),
+            library::weighhare_decode(c, cl, t, tl, m, ml, b, bl, answer),
         (Operation::Pick, &[(z, zl), (o, ol)], []) =>
-            weighhare_pick(z, zl, o, ol, call.wire, call.bit, answer),
+            library::weighhare_pick(z, zl, o, ol, call.wire, call.bit, answer),
         _ => panic!("the archive has no {}", interface::name(call.operation)),
     } }
 }

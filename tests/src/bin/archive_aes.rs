@@ -31,7 +31,8 @@ fn second_line(random: &mut Random) -> String {
 
 /// The output buffers of a call that the archive does not refuse.
 fn archive_buffers(call: &Call) -> Vec<Vec<u8>> {
-    let answer = archive::run(call, 0).expect("nothing written beside the buffers");
+    let answer = archive::run(call, &call.buffers(), 0);
+    let answer = answer.expect("nothing written beside the buffers");
     assert_eq!(answer.number, 0, "a sound call");
     answer.buffers
 }

@@ -13,7 +13,7 @@ const SHOWN: usize = 2048;
 /// words, and every output buffer whole. Gives the number.
 pub fn compare(call: &Call, skew: usize) -> Result<u8, String> {
     let expected = interface::expected(call);
-    let given = archive::run(call, skew)?;
+    let given = archive::run(call, &interface::buffers(call), skew)?;
     if given == expected {
         return Ok(expected.number);
     }
