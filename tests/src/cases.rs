@@ -5,6 +5,7 @@ use std::collections::BTreeMap;
 use crate::call::{Call, Operation, Outcome};
 use crate::circuit::Gate;
 use crate::hex;
+use crate::lines;
 use crate::refused::Refused;
 
 /// What a case asks and the answer it gives.
@@ -245,13 +246,8 @@ impl Fields {
 
     /// The gates of the list form: 5 bytes a record, the whole list repeated.
     fn gates(&self) -> Result<Vec<Gate>, String> {
-        let gate = |record: &[u8]| Gate {
-            a: u16::from_be_bytes([record[0], record[1]]),
-            b: u16::from_be_bytes([record[2], record[3]]),
-            code: record[4],
-        };
         let records = self.bytes("gates")?;
-        let list: Vec<Gate> = records.chunks_exact(5).map(gate).collect();
+        let list: Vec<Gate> = records.chunks_exact(5).map(lines::gate).collect();
         Ok(list.repeat(self.number("gates_repeat")?))
     }
 

@@ -1,7 +1,7 @@
 //! What the C interface is handed for a call, and what it must hand back. This implementation alone
 //! says what must come back.
 
-use crate::call::{Call, Operation};
+use crate::call::{Call, Operation, Outcome};
 use crate::circuit::Gate;
 use crate::operations;
 use crate::refused::Refused;
@@ -78,7 +78,11 @@ pub fn expected(call: &Call) -> Answer {
     if call.operation == Operation::Pick {
         return picked(call);
     }
-    let outcome = call.run_in(buffers(call));
+    answer(call.run_in(buffers(call)))
+}
+
+/// What the C interface hands back where this came of a call, of any operation but pick.
+pub fn answer(outcome: Outcome) -> Answer {
     let (number, words) = match outcome.answer {
         Ok(results) => (0, words(&results)),
         Err(Refused { number, place }) => (number, words(&[place])),

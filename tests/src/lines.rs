@@ -1,4 +1,5 @@
 //! Cases as the test programs `vectors` and `garblings` read them: a line each, fields in hexadecimal.
+//! Those of evaluate's list form are read here.
 
 use crate::call::{Call, Operation, Outcome};
 use crate::circuit::Gate;
@@ -105,4 +106,71 @@ pub fn case(call: &Call, expected: &Outcome) -> String {
         fields.extend(expected.buffers.clone());
     }
     line(&fields)
+}
+
+/// The case of evaluate's list form on a line: the call, and what must come of it. Nothing where the
+/// line has none.
+pub fn list_case(line: &str) -> Option<(Call, Outcome)> {
+    let fields: Option<Vec<Vec<u8>>> = line.split(' ').map(bytes).collect();
+    let fields = fields?;
+    let [list, tokens, material, setting, answer, after @ ..] = &fields[..] else {
+        return None;
+    };
+    let (sizes, gates) = list.split_at_checked(4)?;
+    let (&fill, lens) = setting.split_first()?;
+    let (&first, numbers) = answer.split_first()?;
+    let numbers = words(numbers);
+    let call = Call {
+        operation: Operation::EvaluateGates,
+        n: half(sizes, 0),
+        m: half(sizes, 2),
+        gates: gates.chunks_exact(5).map(gate).collect(),
+        tokens: tokens.clone(),
+        material: material.clone(),
+        lens: words(lens).iter().map(|&len| len as usize).collect(),
+        fill,
+        ..Call::default()
+    };
+    let outcome = match first {
+        0 => Outcome {
+            answer: Ok(numbers),
+            buffers: after.to_vec(),
+        },
+        number => Outcome {
+            answer: Err(Refused {
+                number,
+                place: *numbers.first()?,
+            }),
+            buffers: call.buffers(),
+        },
+    };
+    Some((call, outcome))
+}
+
+/// The bytes of a field.
+fn bytes(field: &str) -> Option<Vec<u8>> {
+    match field {
+        "--" => Some(Vec::new()),
+        _ => hex::bytes(field),
+    }
+}
+
+/// The number of the two bytes at an index.
+fn half(bytes: &[u8], at: usize) -> u16 {
+    u16::from_be_bytes([bytes[at], bytes[at + 1]])
+}
+
+/// The gate of a record of 5 bytes.
+pub fn gate(record: &[u8]) -> Gate {
+    Gate {
+        a: half(record, 0),
+        b: half(record, 2),
+        code: record[4],
+    }
+}
+
+/// The numbers of 4 bytes each.
+fn words(bytes: &[u8]) -> Vec<u64> {
+    let word = |four: &[u8]| u64::from(half(four, 0)) << 16 | u64::from(half(four, 2));
+    bytes.chunks_exact(4).map(word).collect()
 }

@@ -1,5 +1,4 @@
-//! Calls of evaluate's list form on ten gates: as many as the array has that the test program
-//! `vectors` lends.
+//! Calls of evaluate's list form, each on ten gates.
 
 use crate::call::{Call, Operation};
 use crate::circuit::{to_bytes, Circuit, Gate, Sizes};

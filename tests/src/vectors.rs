@@ -1,5 +1,6 @@
-//! The files of cases that the test programs `vectors` and `garblings` read: those of the third
-//! reading of 01, and those made here. The same files come out of every run.
+//! The files of cases that the test programs `vectors` and `garblings` read, and those that the test
+//! `lists` hands to the archive: cases of the third reading of 01, and cases made here. The same
+//! files come out of every run.
 
 use crate::block::Colour;
 use crate::call::{Call, Operation};
@@ -15,18 +16,20 @@ use crate::random::Random;
 /// A file of cases, a line each.
 #[derive(Clone, Debug)]
 pub struct File {
-    /// Its name, which the program prints.
+    /// Its name, which a program that reads it prints.
     pub name: &'static str,
     /// Its lines.
     pub text: String,
 }
 
 impl File {
-    /// The test program that reads it: garble has one of its own.
-    pub fn program(&self) -> &'static str {
-        match self.name.starts_with("garble") {
-            true => "garblings",
-            false => "vectors",
+    /// The folder that it is stored in, from the repository's top: that of the test program that
+    /// reads it, of which garble has one of its own, or, of a list of gates, that of the tests here.
+    pub fn folder(&self) -> &'static str {
+        match self.name {
+            name if name.starts_with("evaluate-gates") => "tests/data",
+            name if name.starts_with("garble") => "crates/garblings/data",
+            _ => "crates/vectors/data",
         }
     }
 }
@@ -110,7 +113,7 @@ fn generated_cases(operation: Operation) -> String {
     calls.iter().map(line).collect()
 }
 
-/// The stored cases of the list form on as many gates as `vectors` lends.
+/// The stored cases of the list form on as many gates as those made here.
 fn stored_lists() -> String {
     stored_with(|call| {
         call.operation == Operation::EvaluateGates && call.gates.len() == listed::GATES

@@ -1,11 +1,11 @@
 //! The files of cases of the test programs `vectors` and `garblings` are those made here and a few
-//! written by hand, and they are held to all of them.
+//! written by hand, and they are held to all of them; those of the test `lists` are made here.
 
 use std::fs;
 
 use second::vectors::files;
 
-const CRATES: &str = concat!(env!("CARGO_MANIFEST_DIR"), "/../crates");
+const TOP: &str = concat!(env!("CARGO_MANIFEST_DIR"), "/..");
 
 /// Written by hand, from FIPS 197, RFC 4493 and 01's table.
 const BY_HAND: [&str; 4] = [
@@ -36,7 +36,7 @@ fn lines_due(name: &str, cases: usize) -> Vec<String> {
 #[test]
 fn files_are_those_made_here() {
     for file in files() {
-        let path = format!("{CRATES}/{}/data/{}", file.program(), file.name);
+        let path = format!("{TOP}/{}/{}", file.folder(), file.name);
         let text = fs::read_to_string(&path).expect("a file of cases");
         assert!(text == file.text, "{path}: run vector_data");
     }
@@ -44,7 +44,7 @@ fn files_are_those_made_here() {
 
 /// The files of a program's data, each with its cases.
 fn data(program: &str) -> Vec<(String, usize)> {
-    let entries = fs::read_dir(format!("{CRATES}/{program}/data")).expect("data");
+    let entries = fs::read_dir(format!("{TOP}/crates/{program}/data")).expect("data");
     let file = |entry: fs::DirEntry| {
         let text = fs::read_to_string(entry.path()).expect("a file of cases");
         let name = entry.file_name().into_string().expect("a name");
@@ -63,13 +63,15 @@ fn every_case_is_counted() {
             due.extend(lines_due(&name, cases));
             found.push(name);
         }
-        let stdout = fs::read_to_string(format!("{CRATES}/{program}/stdout")).expect("stdout");
+        let stdout = format!("{TOP}/crates/{program}/stdout");
+        let stdout = fs::read_to_string(stdout).expect("stdout");
         let mut lines: Vec<&str> = stdout.lines().collect();
         due.sort();
         lines.sort();
         assert_eq!(lines, due, "{program}");
     }
-    let files = files();
+    let mut files = files();
+    files.retain(|file| file.folder() != "tests/data");
     let made = files.iter().map(|file| file.name);
     let mut names: Vec<&str> = made.chain(BY_HAND).collect();
     found.sort();

@@ -137,7 +137,7 @@ pub fn pick_run<'a>(
 }
 
 // By group: 1 encryption, 2 key expansion, 3 doubling, 4 check, 5 plain, 7 encode, 8 pick, 10 evaluate,
-// 11 decode, 12 the chain, 13 evaluate's list form, 14 encryption by tables, 15 and 16 as the first and the second block of a pair.
+// 11 decode, 12 the chain, 14 encryption by tables, 15 and 16 as the first and the second block of a pair.
 pub fn agrees<'a>(
     group: u8,
     a: &'a [u8],

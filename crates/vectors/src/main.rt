@@ -1,5 +1,6 @@
-// The test program: outside vectors against the proved functions, all but garble, which has a program of its own. Each file of
-// data/ has a case a line, and each group prints how many of its cases agree.
+// The test program: outside vectors against the proved functions, all but garble, which has a program of its own, and evaluate's list
+// form, whose cases the tests in Rust run on the archive. Each file of data/ has a case a line, and each group prints how many of its
+// cases agree.
 use crate::text::run;
 use cases::file::print_tally;
 use cases::file::read_file;
@@ -8,7 +9,6 @@ use libc::STDOUT_FILENO;
 
 mod agree;
 mod chained;
-mod listed;
 mod single;
 mod text;
 
@@ -43,7 +43,6 @@ fn run_stored() {
     run_file(7, b"encode");
     run_file(8, b"pick");
     run_file(10, b"evaluate");
-    run_file(13, b"evaluate-gates");
     run_file(11, b"decode");
 }
 
@@ -52,7 +51,6 @@ fn run_generated() {
     run_file(7, b"encode-generated");
     run_file(8, b"pick-generated");
     run_file(10, b"evaluate-generated");
-    run_file(13, b"evaluate-gates-generated");
     run_file(11, b"decode-generated");
     run_file(12, b"chain-generated");
 }

@@ -1,8 +1,7 @@
 // Whether a case agrees with an operation that writes one buffer. Before a call every byte of the lent buffer is the case's fill;
 // after it the buffer must hold the case's bytes, or after a refusal still nothing but the fill.
-// By group: 7 encode, on circuit, values, zero list and one list; 10 evaluate and 11 decode, on circuit, tokens and material;
-// 13 evaluate's list form, on the list, tokens and material. A group with three arguments does not look at d.
-use crate::listed::list_answers;
+// By group: 7 encode, on circuit, values, zero list and one list; 10 evaluate and 11 decode, on circuit, tokens and material, which do
+// not look at d.
 use cases::answer::evaluated;
 use cases::answer::ran;
 use cases::answer::room_at;
@@ -23,7 +22,6 @@ fn answers(
         7 => ran(garble::encode(a, b, c, d, out), answer),
         10 => evaluated(evaluate::evaluate(a, b, c, out), answer),
         11 => ran(evaluate::decode(a, b, c, out), answer),
-        13 => list_answers(a, b, c, answer, out),
         _ => false,
     }
 }
