@@ -6,7 +6,7 @@ repository's top folder, when the parameters of `evaluate_gates` or `walk_gates`
 
 walk.py beside it says what such a proof is made of; evaluate_gates.antt.in has what is not computed.
 """
-from walk import Walk, low, written
+from walk import NUMBERS, OWN, READ, Walk, closed, copies, entry, goes, joined, listed, low, memory, tokens, written
 
 OUT = 'crates/evaluate/proofs/list/evaluate_gates/Proof.antt'
 
@@ -17,11 +17,8 @@ TYPES = ['E′.mir', 'half', 'half', 'gatesTy', 'bytesTy 1', 'bytesTy 2', 'wires
          'arrayTy w32 1024', 'arrayTy w8 176', 'refTy w32 1024', 'refTy w8 176', 'againTy', 'sliceTy againTy']
 NUMBER = {name: i for i, name in enumerate(LOCALS)}
 PARAMS = LOCALS[1:7]
-LENT = ['gates', 'tokens', 'material', 'wires']
-OWN = {'gates': 'OwnG', 'tokens': 'OwnI', 'material': 'OwnM'}
-COPY = {'gates': 'shr-slice-copy 𝓤 H A W (named 0) κ₀ T.the-row .twice xg (vg ∷ [])',
-        'tokens': 'shr-slice-copy 𝓤 H A W (named 1) κ₁ u8 .twice xi (vi ∷ [])',
-        'material': 'shr-slice-copy 𝓤 H A W (named 2) κ₂ u8 .twice xm (vm ∷ [])'}
+LENT = [*READ, 'wires']
+COPY = copies(0)
 # What `walk_gates` gets: what it owns of its parameters, and the tokens of its lifetimes. ν and μ are those of the two arrays.
 HANDED = [('hand t', 'OwnArray w32 1024 ν δ l tables'), ('hand w', 'OwnArray w8 176 μ ε k keys'), ('hand gates', 'OwnG'),
           ('hand tokens', 'OwnI'), ('hand material', 'OwnM'), ('own wires', 'OwnO'), ('life t', 'flft (ν ∷ []) fullShare'),
@@ -29,58 +26,22 @@ HANDED = [('hand t', 'OwnArray w32 1024 ν δ l tables'), ('hand w', 'OwnArray w
           ('life material', 'flft κ₂ q₂'), ('life wires', 'flft κ₃ q₃')]
 ASKED = [name for name, _ in HANDED]
 LIVES = ASKED[6:]
-
-
-def goes_walk():
-    """From what is handed on to what `walk_gates` asks: the tokens of its lifetimes, and what it owns of its parameters."""
-    w = Walk(['asked'])
-    w.scatter('asked', ASKED)
-    w.step('nothing ! $')
-    w.names = ['true'] + w.names
-    w.gather('lives', LIVES + ['true'])
-    w.step('frame ! $')
-    w.become(1)
-    w.step('nothing ! $')
-    w.names = ['true'] + w.names
-    w.gather('owns', ['hand gates', 'hand tokens', 'hand material', 'own wires', 'true'], 'fjoin')
-    w.step('owned ! u16 (Is u16) (uint-makes 𝓤 H A W w16) m _ (refl, m-fits) $ fjoin ! $')
-    w.step('owned ! u16 (Is u16) (uint-makes 𝓤 H A W w16) n _ (refl, n-fits) $ fjoin ! $')
-    w.gather('all', ['hand t', 'hand w', 'owns'], 'fjoin')
-    w.step('done !')
-    return w.text(6)
-
-
-HELD = ['life ' + x for x in LENT] + ['own gates', 'own tokens', 'own material', 'at last']
-
-
-def exits():
-    """From what is held at the return to what the contract says: the tokens, the parameters, and the buffer's last value."""
-    w = Walk(['answer'] + HELD)
-    w.step('nothing ! $')
-    w.names = ['true'] + w.names
-    w.gather('lives', ['life ' + x for x in LENT] + ['true'])
-    w.step('frame ! $')
-    w.become(1)
-    w.front('answer')
-    w.step('nothing ! $')
-    w.names = ['true'] + w.names
-    w.gather('owns', ['own gates', 'own tokens', 'own material', 'at last', 'true'], 'fjoin')
-    w.step('owned ! u16 (Is u16) (uint-makes 𝓤 H A W w16) m _ (refl, m-fits) $ fjoin ! $')
-    w.step('owned ! u16 (Is u16) (uint-makes 𝓤 H A W w16) n _ (refl, n-fits) $ fjoin ! $')
-    w.step('frame ! $ done !')
-    return w.text(6)
+# The two arrays' places, lifetimes, names and values.
+NEW = 'l₇ l₈ ν μ δ ε tables keys'
+# What is held at the return, but for the result.
+HELD = ['life ' + x for x in LENT] + ['own ' + x for x in READ] + ['at last']
 
 
 def make(w, what, call, module, says, width, count, made):
     """An array is made by a call, and stored in its local: it is known by `made`, with what the call says of it."""
     w.step('nothing ! $ use1 W (raw (%s 𝓤 H A mem run .pre to-%s)) goes-%s $' % (call, call, call))
     w.names = ['asked'] + w.names
-    w.step('calls-at ! fm (%s 𝓤 H A mem run) known-%s to-%s (no-more !) (λ v.' % (call, call, call))
-    w.step('use1 W (later (some (λ (r : List ℕ). (‵ ftrue ⊛ ‵ (Array (UInt %s) %d .own r (v ∷ []))) ⊛ raw (ensured 𝓤 H A %s.ended (%s.clauses 𝓤 H A mem run) tt tt tt r)))) (id⊢ 𝓤 _) $ await ! tt $ pick ! (λ %s.' % (width, count, module, module, made))
-    w.step('split ! $ move ! (1 ∷ []) $ use1 W (raw (fact 𝓤 (%s))) (told-%s %s) $ heard ! (%s) (λ told-%s. split ! $ drop ! $' % (says, call, made, says, what))
-    w.step('peeks ! (Array (UInt %s) %d) (Is (Array (UInt %s) %d)) (shows 𝓤 H A (Array (UInt %s) %d)) %s (v ∷ []) (λ is-%s. drop ! $' % (width, count, width, count, width, count, made, what))
+    w.called('calls-at ! fm', call, 'known-' + call, 'to-' + call, w.operands([]), 'v')
+    w.answers('List ℕ', '‵ ftrue', 'Array (UInt %s) %d' % (width, count), module, 'tt tt', 'r', 'v', made)
+    w.told(says, 'told-%s %s' % (call, made), 'told-' + what, ' split ! $ drop ! $')
+    w.peek('(Array (UInt %s) %d)' % (width, count), made, 'v', 'is-' + what, ' drop ! $')
     w.become(1)
-    w.step('land ! (from ! (stop !)) (init ! %d refl (array-typed 𝓤 H A W %s %d %s _ is-%s)) $' % (w.at('made ' + what), width, count, made, what))
+    w.land('made ' + what, '(array-typed 𝓤 H A W %s %d %s _ is-%s)' % (width, count, made, what))
     w.step('rewrite ! %d (λ (u : Val). ‵ (fat fullShare (arrayTy %s %d) l%s 0 u)) (array-val %s %d %s v is-%s) refl $' % (w.at('made ' + what), width, count, low(NUMBER['made ' + what]), width, count, made, what))
     w.assign('(of-opd ! %s)' % w.load('made ' + what), what, '(array-typed 𝓤 H A W %s %d %s _ (same-array %s %d %s v is-%s))' % (width, count, made, width, count, made, what))
 
@@ -101,9 +62,7 @@ def lend(w, what, width, count, made, life, name):
 
 def back(w, what, width, count, made):
     """Its lifetime is ended, and the array comes back to its local."""
-    w.front('life ' + what)
-    w.step('lft-end ! tt $')
-    w.become(1, 'dead')
+    w.ended('life ' + what)
     w.front('dead', 'lender ' + what)
     place = 'l%s' % low(NUMBER[what])
     w.step('lent-back ! tt $ use1 W (‵ (fat fullShare (arrayTy %s %d) %s 0 (array-of %s %d %s))) (from-part 𝓤 H A W %s %d %s %s) $' % (width, count, place, width, count, made, width, count, made, place))
@@ -112,68 +71,46 @@ def back(w, what, width, count, made):
 
 def body():
     """The whole function."""
-    w = Walk([x for name in reversed(LOCALS) for x in (name, 'dies ' + name)] + ['lives', 'owns'])
-    w.step(' '.join('pass1 ! (init ! %d refl %s) $' % (w.at(x), typed) for x, typed in
-                    [('n', '(tt, record { fits = n-fits })'), ('m', '(tt, record { fits = m-fits })'), ('gates', '(tt, (tt, (record { fits = room-g .0 }, tt)))'),
-                     ('tokens', '(tt, (tt, (record { fits = room-i .0 }, tt)))'), ('material', '(tt, (tt, (record { fits = room-m .0 }, tt)))'),
-                     ('wires', '(tt, (tt, (record { fits = room-o .0 }, tt)))')]) + ' pass0 ! $')
+    w = Walk(entry(LOCALS))
+    w.step(w.passed(PARAMS) + ' pass0 ! $')
     make(w, 't', 'TTables', 't-tables', 'IsTTables tables', 'w32', 1024, 'tables')
     make(w, 'w', 'Schedule', 'schedule', 'keys ≡ keyExpansion fixedKey', 'w8', 176, 'keys')
-    w.step('assigns ! (addr ! (from ! (stop !))) (from ! (stop !)) (init ! %d refl (tt, tt)) $' % w.at('ref t'))
-    w.step('assigns ! (addr ! (from ! (stop !))) (from ! (stop !)) (init ! %d refl (tt, tt)) $' % w.at('ref w'))
-    w.step('assigns ! (addr ! (from ! (fld ! refl (hop ! (look-in ! %d (sub ! 0 refl (whole !))) (stop !))))) (from ! (stop !)) (init ! %d refl (tt, tt)) $' % (w.at('wires'), w.at('again')))
-    w.step('assigns ! (agg ! (and-then ! %s (and-then ! %s (no-more !)))) (from ! (stop !)) (init ! %d refl (tt, (tt, (record { fits = room-o .0 }, tt)))) $' % (w.load('again'), w.field('wires', 1), w.at('slice')))
-    # what is owned, apart
-    w.front('owns')
-    w.step('fsplit ! $ drop ! $ fsplit ! $ drop ! $ fsplit ! $')
-    w.become(1, 'own gates', 'rest')
-    for name in ['tokens', 'material']:
-        w.front('rest')
-        w.step('fsplit ! $')
-        w.become(1, 'own ' + name, 'rest')
-    w.front('rest')
-    w.step('fsplit ! $')
-    w.become(1, 'own wires', 'true')
+    w.assign('(addr ! (from ! (stop !)))', 'ref t', '(tt, tt)')
+    w.assign('(addr ! (from ! (stop !)))', 'ref w', '(tt, tt)')
+    w.again('wires', 'again', 'slice')
+    w.apart(PARAMS)
     w.scatter('lives', ['life ' + x for x in LENT] + ['true more'])
     lend(w, 't', 'w32', 1024, 'tables', 'ν', 'δ')
     lend(w, 'w', 'w8', 176, 'keys', 'μ', 'ε')
-    for name in ['gates', 'tokens', 'material']:
+    for name in READ:
         w.copy(name, OWN[name], COPY[name])
     w.gather('asked', ASKED)
-    w.step('use1 W (raw (Walks-over 𝓤 H A mem run .pre (to-walk l₇ l₈ ν μ δ ε tables keys))) (goes-walk l₇ l₈ ν μ δ ε tables keys told-t told-w) $')
-    w.step('calls-at ! fm (Walks-over 𝓤 H A mem run) known-walk (to-walk l₇ l₈ ν μ δ ε tables keys) %s (λ v.' % w.operands(['ref t', 'ref w', 'n', 'm', 'gates', 'tokens', 'material', 'slice']))
-    w.step('use1 W (later (some (λ (r : Evaluated). (LivesAt l₇ l₈ ν μ δ ε tables keys ⊛ ‵ (E.the-row .own r (v ∷ []))) ⊛ raw (ensured 𝓤 H A walk.ended (walk.clauses 𝓤 H A mem run) (κs-at l₇ l₈ ν μ δ ε tables keys) (args-at l₇ l₈ ν μ δ ε tables keys) tt r)))) (id⊢ 𝓤 _) $ await ! tt $ pick ! (λ r.')
-    w.step('split ! $ move ! (1 ∷ []) $ use1 W (some (λ (zs : Lasts). ‵ (lasts walk.ended (κs-at l₇ l₈ ν μ δ ε tables keys) (args-at l₇ l₈ ν μ δ ε tables keys) zs) ⊛ raw (fact 𝓤 (Answers r (last-of zs))))) (id⊢ 𝓤 _) $ pick ! (λ zs.')
-    w.step('split ! $ move ! (1 ∷ []) $ heard ! (Answers r (last-of zs)) (λ e.')
-    w.step('fsplit ! $ drop ! $ ' * 7 + 'fsplit ! $ fsplit ! $ move ! (1 ∷ []) $ feqL ! (λ l.')
-    w.become(1, 'at last', 'true last', 'lives and answer')
-    w.front('lives and answer')
-    w.step('split ! $')
-    w.become(1, 'lives', 'answer')
-    w.front('answer')
-    w.step('peeks ! E.the-row (Is E.the-row) (shows 𝓤 H A E.the-row) r (v ∷ []) (λ is.')
-    w.step('land ! (from ! (stop !)) (init ! %d refl (EL.lawful E.the-type E′.the-laws 𝓤 H A W tt .typed r _ is .0)) $' % w.at('result'))
+    to, at = '(to-walk %s)' % NEW, '(κs-at %s) (args-at %s)' % (NEW, NEW)
+    w.asks('Walks-over', to, '(goes-walk %s told-t told-w)' % NEW)
+    w.called('calls-at ! fm', 'Walks-over', 'known-walk', to, w.operands(['ref t', 'ref w', 'n', 'm', 'gates', 'tokens', 'material', 'slice']), 'v')
+    w.answers('Evaluated', 'LivesAt ' + NEW, 'E.the-row', 'walk', at, 'r', 'v')
+    w.last('walk', at, 'zs', 'Lasts', 'Answers r (last-of zs)', 'e')
+    w.last_bytes(7, 'l')
+    w.owned_past('at last', 'answer')
+    w.land_evaluated('result', 'r', 'v', 'is')
     w.scatter('lives', LIVES + ['true back'])
     back(w, 't', 'w32', 1024, 'tables')
     back(w, 'w', 'w8', 176, 'keys')
-    w.step('returns ! (look ! %d refl) $' % w.at('result'))
-    w.forget(*LOCALS)
-    w.keep([x for name in LOCALS for x in (name, 'dies ' + name)] + ['answer'] + HELD)
-    w.step('free1 ! $ ' * len(LOCALS) + 'free0 ! $')
-    w.step('by ! (exits r v (last-of zs) e l)' + ')' * 18)
-    return w.text(8)
+    w.leave(LOCALS, LOCALS, ['answer'] + HELD)
+    w.step('by ! (exits r v (last-of zs) e l)')
+    return closed(w.text(8))
 
 
 def main():
-    made = ' '.join('alloc1 ! {τ = %s} (λ l%s.' % (TYPES[i], low(i)) for i in range(len(LOCALS)))
-    held = {'own gates': '‵ OwnG', 'own tokens': '‵ OwnI', 'own material': '‵ OwnM', 'at last': '‵ (finally u8 (xo .name) d)'}
-    held.update(('life ' + x, '‵ (flft κ%s q%s)' % (low(i), low(i))) for i, x in enumerate(LENT))
+    held = {'at last': '(finally u8 (xo .name) d)'}
+    held.update(('own ' + x, OWN[x]) for x in READ)
+    held.update(('life ' + x, '(%s)' % token) for x, token in tokens(LENT).items())
     written(__file__, OUT, {
-        'ASKED': ' ⊛ '.join('(‵ (%s)' % text for _, text in HANDED[:-1]) + ' ⊛ ‵ (%s)' % HANDED[-1][1] + ')' * (len(HANDED) - 1),
-        'GOES_WALK': goes_walk(),
-        'HELD': ' ∷ '.join(held[x] for x in HELD) + ' ∷ []',
-        'EXITS': exits(),
-        'MADE': made,
+        'ASKED': joined(['‵ (%s)' % text for _, text in HANDED]),
+        'GOES_WALK': goes(ASKED, NUMBERS, before=['hand t', 'hand w'], fact=True),
+        'HELD': listed('‵ ' + held[x] for x in HELD),
+        'EXITS': Walk(['answer'] + HELD).exits('answer', LENT, HELD[len(LENT):]),
+        'MADE': memory(TYPES),
         'BODY': body(),
         'CLOSED': ')' * len(LOCALS),
     })

@@ -7,7 +7,7 @@ folder, when the parameters of `walk_gates` or of a function that it calls chang
 walk.py beside it says what such a proof is made of; walk_gates.antt.in has what is not computed. The function has a loop for each
 pass, and all that differs between the three is in PASSES.
 """
-from walk import Walk, low, written
+from walk import NUMBERS, OWN, Walk, closed, copies, entry, filled, goes, joined, listed, low, memory, tokens, uint, written
 
 OUT = 'crates/evaluate/proofs/list/walk_gates/Proof.antt'
 
@@ -27,13 +27,12 @@ VALUES = {'t': 'vt', 'w': 'vw', 'n': '(vint w16 n)', 'm': '(vint w16 m)', 'gates
 # What the function owns of each lent thing, and the tokens of the lifetimes, which are numbered in the parameters' order.
 LENT = ['t', 'w', 'gates', 'tokens', 'material', 'wires']
 NAME = {'t': 'xt', 'w': 'xw', 'gates': 'xg', 'tokens': 'xi', 'material': 'xm'}
-OWN = {'t': 'OwnT', 'w': 'OwnW', 'gates': 'OwnG', 'tokens': 'OwnI', 'material': 'OwnM'}
-COPY = {'t': 'shr-copy 𝓤 H A W (named 0) κ₀ TRow .twice xt (vt ∷ [])', 'w': 'shr-copy 𝓤 H A W (named 1) κ₁ WRow .twice xw (vw ∷ [])',
-        'gates': 'shr-slice-copy 𝓤 H A W (named 2) κ₂ T.the-row .twice xg (vg ∷ [])',
-        'tokens': 'shr-slice-copy 𝓤 H A W (named 3) κ₃ u8 .twice xi (vi ∷ [])',
-        'material': 'shr-slice-copy 𝓤 H A W (named 4) κ₄ u8 .twice xm (vm ∷ [])'}
-TOKEN = {name: 'flft κ%s q%s' % (low(i), low(i)) for i, name in enumerate(LENT)}
+OWN = {'t': 'OwnT', 'w': 'OwnW', **OWN}
+COPY = {'t': 'shr-copy 𝓤 H A W (named 0) κ₀ TRow .twice xt (vt ∷ [])', 'w': 'shr-copy 𝓤 H A W (named 1) κ₁ WRow .twice xw (vw ∷ [])', **copies(2)}
+TOKEN = tokens(LENT)
 HELD = [x for name in reversed(LENT) for x in ('own ' + name, 'life ' + name)]
+# How a function is called here.
+CALLS = 'calls-at ! (fmOf 𝓤 H (W .laws) 𝓣)'
 AT = ['walk'] + HELD + [x for x in LOCALS if x != 'walk'] + ['dies ' + x for x in LOCALS]
 
 # For each pass: the function that its loop calls, what it is handed before and after the walk and the gate, whether the buffer is
@@ -88,54 +87,15 @@ def handed(x):
     return '‵ ' + OWN[x[5:]] if x.startswith('hand ') else '‵ (%s)' % TOKEN[x[5:]]
 
 
-def nested(parts, sign=' ⊛ '):
-    return sign.join('(' + x for x in parts[:-1]) + sign + parts[-1] + ')' * (len(parts) - 1)
-
-
 def tupled(parts):
     return ''.join('(%s, ' % x for x in parts) + 'tt' + ')' * len(parts)
 
 
-def close(text):
-    return text + ')' * (text.count('(') - text.count(')'))
-
-
 def goes_call(one):
-    """From what is handed on to what the call asks: the tokens of its lifetimes, and what it owns of its parameters."""
-    w = Walk(['asked'])
-    w.scatter('asked', one['asked'])
-    w.step('nothing ! $')
-    w.names = ['true'] + w.names
-    w.gather('lives', one['lives'])
-    w.step('frame ! $')
-    w.become(1)
-    w.step('nothing ! $')
-    w.names = ['true'] + w.names
-    w.gather('owns', ['hand ' + x for x in one['after']] + ['new slice'] * one['buffer'] + ['true'], 'fjoin')
-    w.step('owned ! T.the-row (Is T.the-row) (LL.makes T.the-type T′.the-plain 𝓤 H A) (g-at s) _ p $ fjoin ! $')
-    w.step('owned ! S.the-row (Is S.the-row) (LL.makes S.the-type S′.the-plain 𝓤 H A) s _ is $ fjoin ! $')
-    if one['before']:
-        w.gather('all', ['hand ' + x for x in one['before']] + ['owns'], 'fjoin')
-    w.step('done !')
-    return w.text(6)
-
-
-def goes_begin():
-    """The same for `begin`, which is lent the material and asks nothing."""
-    w = Walk(['asked'])
-    w.scatter('asked', ['hand material', 'life material'])
-    w.step('nothing ! $')
-    w.names = ['true'] + w.names
-    w.gather('lives', ['life material', 'true'])
-    w.step('nothing ! $')
-    w.names = ['true'] + w.names
-    w.gather('owns', ['hand material', 'true'], 'fjoin')
-    w.step('owned ! usize (Is usize) (uint-makes 𝓤 H A W w64) (length gs) _ (refl, g-fits) $ fjoin ! $')
-    w.step('owned ! u16 (Is u16) (uint-makes 𝓤 H A W w16) m _ (refl, m-fits) $ fjoin ! $')
-    w.step('owned ! u16 (Is u16) (uint-makes 𝓤 H A W w16) n _ (refl, n-fits) $ fjoin ! $')
-    w.gather('all', ['lives', 'owns'])
-    w.step('frame ! $ done !')
-    return w.text(6)
+    """What the call of a pass asks: the gate and the walk are handed by value."""
+    values = ['owned ! T.the-row (Is T.the-row) (LL.makes T.the-type T′.the-plain 𝓤 H A) (g-at s) _ p $ fjoin ! $',
+              'owned ! S.the-row (Is S.the-row) (LL.makes S.the-type S′.the-plain 𝓤 H A) s _ is $ fjoin ! $']
+    return goes(one['asked'], values, before=['hand ' + x for x in one['before']], fact=True)
 
 
 def call_part(j, one):
@@ -149,7 +109,7 @@ def call_part(j, one):
     v = dict(j=j, fn=one['as_'], C=one['as_'].capitalize(), new=new, types=types, names=one['new'], asks=one['asks'], says=one['says'],
              kinds=' × '.join('(' + x for x in kinds) + ' × Unit {0}' + ')' * len(kinds), lifts=' × '.join(['(Lft'] * len(lifes)) + ' × Unit {0}' + ')' * len(lifes),
              args=tupled(args), lifes=tupled(lifes), shares=tupled(shares), values=tupled(values),
-             asked=nested([handed(x) for x in one['asked']]), lives=nested([handed(x) for x in one['lives']]), goes=goes_call(one))
+             asked=joined([handed(x) for x in one['asked']]), lives=joined([handed(x) for x in one['lives']]), goes=goes_call(one))
     text = '''  -- ---- the call of `{call}`
   abbrev κs-{j} : {lt}{lifts}
   κs-{j} {nu}= {lifes}
@@ -219,20 +179,16 @@ def finishes():
     """After the loops: `finish` is called and its result returned."""
     w = Walk(AT)
     w.step('owned ! S.the-row (Is S.the-row) (LL.makes S.the-type S′.the-plain 𝓤 H A) s (val-of s ∷ []) (f .2) $')
-    w.step('use1 W (raw (Finish 𝓤 H A mem run .pre (to-finish s))) (goes-finish s) $')
+    w.asks('Finish', '(to-finish s)', '(goes-finish s)')
     w.names = ['asked'] + w.names
-    w.step('calls-at ! (fmOf 𝓤 H (W .laws) 𝓣) (Finish 𝓤 H A mem run) known-finish (to-finish s) %s (λ v.' % w.operands(['walk']))
-    w.step('use1 W (later (some (λ (r : Evaluated). (‵ ftrue ⊛ ‵ (E.the-row .own r (v ∷ []))) ⊛ raw (ensured 𝓤 H A finish.ended (finish.clauses 𝓤 H A mem run) tt (s, tt) tt r)))) (id⊢ 𝓤 _) $ await ! tt $ pick ! (λ r.')
-    w.step('split ! $ move ! (1 ∷ []) $ use1 W (raw (fact 𝓤 (r ≡ s .answer))) (finished s r) $ heard ! (r ≡ s .answer) (λ is-answer. split ! $ drop ! $')
+    w.called(CALLS, 'Finish', 'known-finish', '(to-finish s)', w.operands(['walk']), 'v')
+    w.answers('Evaluated', '‵ ftrue', 'E.the-row', 'finish', 'tt (s, tt)', 'r', 'v')
+    w.told('r ≡ s .answer', 'finished s r', 'is-answer', ' split ! $ drop ! $')
     w.names[0] = 'answer'
-    w.step('peeks ! E.the-row (Is E.the-row) (shows 𝓤 H A E.the-row) r (v ∷ []) (λ is.')
-    w.step('land ! (from ! (stop !)) (init ! %d refl (EL.lawful E.the-type E′.the-laws 𝓤 H A W tt .typed r _ is .0)) $' % w.at('result'))
-    w.step('returns ! (look ! %d refl) $' % w.at('result'))
-    w.forget('result', *PARAMS, 'walk')
-    w.keep([x for name in LOCALS for x in (name, 'dies ' + name)] + ['answer'] + HELD)
-    w.step('free1 ! $ ' * len(LOCALS) + 'free0 ! $')
+    w.land_evaluated('result', 'r', 'v', 'is')
+    w.leave(LOCALS, ['result', *PARAMS, 'walk'], ['answer'] + HELD)
     w.step('by ! (exits n-fits m-fits r v s d is-answer (f .0 .long) (G.over n m gs (now xi) (now xm) (now xo) n-fits m-fits left s d (f .0) (f .1) e))')
-    return close(w.text(10))
+    return closed(w.text(10))
 
 
 def turn(j, one):
@@ -261,23 +217,19 @@ def turn(j, one):
     for name in one['refs']:
         w.copy(name, OWN[name], COPY[name])
     w.gather('asked', one['asked'])
-    contract, to = one['as_'].capitalize() + ' 𝓤 H A mem run', 'to-%d %ss d' % (j, one['new'])
-    w.step('use1 W (raw (%s .pre (%s))) (goes-%d %ss d (asks p) (f .2) p) $' % (contract, to, j, one['new']))
-    w.step('calls-at-last ! (fmOf 𝓤 H (W .laws) 𝓣) (%s) known-%s (%s) %s (λ v.' % (contract, one['as_'], to, w.operands(one['args'])))
+    contract, to = one['as_'].capitalize(), '(to-%d %ss d)' % (j, one['new'])
+    w.asks(contract, to, '(goes-%d %ss d (asks p) (f .2) p)' % (j, one['new']))
+    w.called(CALLS.replace('calls-at', 'calls-at-last'), contract, 'known-' + one['as_'], to, w.operands(one['args']), 'v')
     at = '(κs-%d%s) (args-%d %ss d)' % (j, ' ν' * one['buffer'], j, 'δ ' * one['buffer'])
-    w.step('use1 W (later (some (λ (r : Walk). (lives-%d%s ⊛ ‵ (S.the-row .own r (v ∷ []))) ⊛ raw (ensured 𝓤 H A %s.ended (%s.clauses 𝓤 H A mem run) %s tt r)))) (id⊢ 𝓤 _) $ await ! tt $ pick ! (λ r.' % (j, ' ν' * one['buffer'], one['as_'], one['as_'], at))
+    w.answers('Walk', 'lives-%d%s' % (j, ' ν' * one['buffer']), 'S.the-row', one['as_'], at, 'r', 'v')
     if one['buffer']:
-        w.step('split ! $ move ! (1 ∷ []) $ use1 W (some (λ (zs : Lasts-%d). ‵ (lasts %s.ended %s zs) ⊛ raw (fact 𝓤 (%s)))) (id⊢ 𝓤 _) $ pick ! (λ zs.' % (j, one['as_'], at, one['says']))
-        w.step('split ! $ move ! (1 ∷ []) $ heard ! (%s) (λ led.' % one['says'])
-        w.step('fsplit ! $ drop ! $ ' * (len(one['args']) - 1) + 'fsplit ! $ fsplit ! $ move ! (1 ∷ []) $ feqL ! (λ len.')
-        w.become(1, 'at last', 'true', 'lives and walk')
-        w.front('lives and walk')
+        w.last(one['as_'], at, 'zs', 'Lasts-%d' % j, one['says'], 'led')
+        w.last_bytes(len(one['args']) - 1, 'len')
+        w.owned_past('at last', 'walk owns')
     else:
-        w.step('split ! $ move ! (1 ∷ []) $ use1 W (raw (fact 𝓤 (%s))) (told-%d s d r) $ heard ! (%s) (λ led.' % (one['says'], j, one['says']))
-    w.step('split ! $')
-    w.become(1, 'lives', 'walk owns')
-    w.front('walk owns')
-    w.step('peeks ! S.the-row (Is S.the-row) (shows 𝓤 H A S.the-row) r (v ∷ []) (λ is. drop ! $')
+        w.told(one['says'], 'told-%d s d r' % j, 'led')
+        w.owned('walk owns')
+    w.peek('S.the-row', 'r', 'v', 'is', ' drop ! $')
     w.become(1)
     w.scatter('lives', one['lives'][:-1] + ['true again'])
     if one['buffer']:
@@ -290,14 +242,13 @@ def turn(j, one):
     good = 'goes-next p r %s' % ('zs len led' if one['buffer'] else 'led')
     on = 'led .on' if one['buffer'] else 'omega arith'
     w.step('by ! (below-%d left r (%s) (%s, %s, subst (λ (u : Val). Is S.the-row r (u ∷ [])) (walk-val r v is) is))' % (j, last, good, on))
-    return close(w.text(10))
+    return closed(w.text(10))
 
 
 def lend(w, j):
     """The buffer is lent again, for a new lifetime and under a new name."""
     again, slice_ = 'again %d' % j, 'slice %d' % j
-    w.step('assigns ! (addr ! (from ! (fld ! refl (hop ! (look-in ! %d (sub ! 0 refl (whole !))) (stop !))))) (from ! (stop !)) (init ! %d refl (tt, tt)) $' % (w.at('wires'), w.at(again)))
-    w.step('assigns ! (agg ! (and-then ! %s (and-then ! %s (no-more !)))) (from ! (stop !)) (init ! %d refl (tt, (tt, (record { fits = room-o .0 }, tt)))) $' % (w.load(again), w.field('wires', 1), w.at(slice_)))
+    w.again('wires', again, slice_)
     w.step('rewrite ! %d (λ (z : ℕ). ‵ (fat fullShare (sliceTy refTy) l%s 0 (vo z))) (sym (f .0 .long)) refl $' % (w.at(slice_), low(NUMBER[slice_])))
     w.step('lft-new ! tt (λ ν.')
     w.names = ['new life'] + w.names
@@ -308,9 +259,7 @@ def lend(w, j):
 
 def back(w, j):
     """Its lifetime is ended, and it comes back."""
-    w.front('new life')
-    w.step('lft-end ! tt $')
-    w.become(1, 'dead')
+    w.ended('new life')
     w.front('dead', 'lender', 'at last')
     w.step('use3 W (later (‵ (OwnO (last-%d zs) (length d)) ⊛ ‵ (flft κ₅ q₅))) (comes-back u8 κ₅ (ν ∷ []) q₅ (xo .name) (xo .ptr .0) (xo .ptr .1) 𝓤 H A W (named 5) (named 0) d δ (last-%d zs) (subst (Room u8) (sym (f .0 .long)) room-o) len) $ await ! tt $ split ! $' % (j, j))
     w.become(3, 'own wires', 'life wires')
@@ -331,32 +280,17 @@ def loop_part(j, one):
           goes-next p r led = G.nexts-%d n m gs (now xi) (now xm) (now xo) n-fits m-fits left s d (f .0) (gate-fits (g-at s) p) r d refl at-pass refl led''' % (one['says'], j)
     parts = {'J': str(j), 'TURN_NAME': 'mir.turn-%d' % (j + 1), 'AFTER': 'mir.t-%d' % (4 + j), 'ASKS': one['asks'], 'GIVEN': one['given'],
              'GOES_NEXT': goes_next, 'LEAVES': leaves(j), 'TURN': turn(j, one)}
-    for name, part in parts.items():
-        text = text.replace('@%s@' % name, part)
-    return text
+    return filled(text, parts)
 
 
 def exits():
-    """From what is held at the return to what the contract says: the tokens, the parameters, and the buffer's last value."""
+    """At the return the buffer is as long as at the entry."""
     w = Walk(['answer'] + HELD)
     w.step('rewrite ! %d (λ (z : ℕ). ‵ (OwnO d z)) l refl $' % w.at('own wires'))
-    w.step('nothing ! $')
-    w.names = ['true'] + w.names
-    w.gather('lives', ['life ' + x for x in LENT] + ['true'])
-    w.step('frame ! $')
-    w.become(1)
-    w.front('answer')
-    w.step('nothing ! $')
-    w.names = ['true'] + w.names
-    w.gather('owns', ['own gates', 'own tokens', 'own material', 'own wires', 'true'], 'fjoin')
-    w.step('owned ! u16 (Is u16) (uint-makes 𝓤 H A W w16) m _ (refl, m-fits) $ fjoin ! $')
-    w.step('owned ! u16 (Is u16) (uint-makes 𝓤 H A W w16) n _ (refl, n-fits) $ fjoin ! $')
-    w.gather('all', ['own t', 'own w', 'owns'], 'fjoin')
-    w.step('frame ! $ done !')
-    return w.text(6)
+    return w.exits('answer', LENT, ['own ' + x for x in LENT[2:]], before=['own t', 'own w'])
 
 
-ENTERED = [x for name in reversed(LOCALS) for x in (name, 'dies ' + name)] + ['lives', 'owns']
+ENTERED = entry(LOCALS)
 
 
 def entered(x):
@@ -373,62 +307,43 @@ def starts():
     """From the entry to the first loop's head: `begin` is called."""
     w = Walk(ENTERED)
     w.assign('(of-opd ! %s)' % w.field('gates', 1), 'count', '(tt, record { fits = room-g .0 })')
-    # what is owned, apart
-    w.front('owns')
-    w.step('fsplit ! $')
-    w.become(1, 'own t', 'rest')
-    w.front('rest')
-    w.step('fsplit ! $')
-    w.become(1, 'own w', 'rest')
-    w.front('rest')
-    w.step('fsplit ! $ drop ! $ fsplit ! $ drop ! $ fsplit ! $')
-    w.become(1, 'own gates', 'rest')
-    for name in ['tokens', 'material']:
-        w.front('rest')
-        w.step('fsplit ! $')
-        w.become(1, 'own ' + name, 'rest')
-    w.front('rest')
-    w.step('fsplit ! $')
-    w.become(1, 'own wires', 'true')
+    w.apart(PARAMS)
     w.scatter('lives', ['life ' + x for x in LENT] + ['true more'])
     # the call
     w.copy('material', OWN['material'], COPY['material'])
     w.gather('asked', ['hand material', 'life material'])
-    w.step('use1 W (raw (Begin 𝓤 H A mem run .pre to-begin)) (goes-begin n-fits m-fits (room-g .0)) $')
-    w.step('calls-at ! (fmOf 𝓤 H (W .laws) 𝓣) (Begin 𝓤 H A mem run) known-begin to-begin %s (λ v.' % w.operands(['n', 'm', 'count', 'material']))
-    w.step('use1 W (later (some (λ (r : Walk). (lives-begin ⊛ ‵ (S.the-row .own r (v ∷ []))) ⊛ raw (ensured 𝓤 H A begin.ended (begin.clauses 𝓤 H A mem run) (κ₄, tt) args-begin tt r)))) (id⊢ 𝓤 _) $ await ! tt $ pick ! (λ r.')
-    w.step('split ! $ move ! (1 ∷ []) $ use1 W (raw (fact 𝓤 (Begun n m (length gs) (now xm) r))) (began r) $ heard ! (Begun n m (length gs) (now xm) r) (λ begun. split ! $')
+    w.asks('Begin', 'to-begin', '(goes-begin n-fits m-fits (room-g .0))')
+    w.called(CALLS, 'Begin', 'known-begin', 'to-begin', w.operands(['n', 'm', 'count', 'material']), 'v')
+    w.answers('Walk', 'lives-begin', 'S.the-row', 'begin', '(κ₄, tt) args-begin', 'r', 'v')
+    w.told('Begun n m (length gs) (now xm) r', 'began r', 'begun', ' split ! $')
     w.become(1, 'lives', 'walk owns')
     w.front('walk owns')
-    w.step('peeks ! S.the-row (Is S.the-row) (shows 𝓤 H A S.the-row) r (v ∷ []) (λ is. drop ! $')
+    w.peek('S.the-row', 'r', 'v', 'is', ' drop ! $')
     w.become(1)
     w.scatter('lives', ['life material', 'true again'])
-    w.step('land ! (from ! (stop !)) (init ! %d refl (LL.lawful S.the-type S′.the-laws 𝓤 H A W .typed r _ is .0)) $' % w.at('walk'))
+    w.land('walk', '(LL.lawful S.the-type S′.the-laws 𝓤 H A W .typed r _ is .0)')
     w.step('rewrite ! %d (λ (u : Val). ‵ (fat fullShare S′.mir l%s 0 u)) (walk-val r v is) refl $' % (w.at('walk'), low(NUMBER['walk'])))
     w.forget('count')
     w.keep(AT)
     w.step('by ! (loops-0 (3 * length gs) r (now xo) (G.begins n m gs (now xi) (now xm) (now xo) n-fits m-fits r begun, omega arith, subst (λ (u : Val). Is S.the-row r (u ∷ [])) (walk-val r v is) is))')
-    return close(w.text(10))
+    return closed(w.text(10))
 
 
 def main():
-    typed = {'t': '(tt, tt)', 'w': '(tt, tt)', 'n': '(tt, record { fits = n-fits })', 'm': '(tt, record { fits = m-fits })',
-             'gates': '(tt, (tt, (record { fits = room-g .0 }, tt)))', 'tokens': '(tt, (tt, (record { fits = room-i .0 }, tt)))',
-             'material': '(tt, (tt, (record { fits = room-m .0 }, tt)))', 'wires': '(tt, (tt, (record { fits = room-o .0 }, tt)))'}
     written(__file__, OUT, {
         'CALLS': '\n'.join(call_part(j, one) for j, one in enumerate(PASSES)),
         'LOOPS': '\n'.join(loop_part(j, PASSES[j]) for j in (2, 1, 0)),
         'PLACES': ' '.join('l' + low(i) for i in range(len(LOCALS))),
-        'LOCALS': ' ∷ '.join('(%s, l%s)' % (TYPES[i], low(i)) for i in range(len(LOCALS))) + ' ∷ []',
-        'AT': ' ∷ '.join(item(x) for x in AT) + ' ∷ []',
-        'HELD': ' ∷ '.join(item(x) for x in HELD) + ' ∷ []',
+        'LOCALS': listed('(%s, l%s)' % (typed, low(i)) for i, typed in enumerate(TYPES)),
+        'AT': listed(item(x) for x in AT),
+        'HELD': listed(item(x) for x in HELD),
         'FINISHES': finishes(),
         'EXITS': exits(),
-        'GOES_BEGIN': goes_begin(),
-        'ENTERED': ' ∷ '.join(entered(x) for x in ENTERED) + ' ∷ []',
+        'GOES_BEGIN': goes(['hand material', 'life material'], [uint('usize', 'w64', '(length gs)', 'g-fits'), *NUMBERS]),
+        'ENTERED': listed(entered(x) for x in ENTERED),
         'STARTS': starts(),
-        'MADE': ' '.join('alloc1 ! {τ = %s} (λ l%s.' % (TYPES[i], low(i)) for i in range(len(LOCALS))),
-        'PASSED': ' '.join('pass1 ! (init ! %d refl %s) $' % (2 * (len(LOCALS) - 1 - NUMBER[x]), typed[x]) for x in PARAMS),
+        'MADE': memory(TYPES),
+        'PASSED': Walk(ENTERED).passed(PARAMS),
         'CLOSED': ')' * len(LOCALS),
     })
 

@@ -304,8 +304,7 @@ module _ {M : Type 1} (𝓤 : URA M) (H : Heap 𝓤) (A : Atoms 𝓤) (W : Given
         alloc1 ! {τ = tyInt w8} (λ l₀. alloc1 ! {τ = half} (λ l₁. alloc1 ! {τ = half} (λ l₂. alloc1 ! {τ = gatesTy} (λ l₃. alloc1 ! {τ = bytesTy 1} (λ l₄. alloc1 ! {τ = bytesTy 2} (λ l₅. alloc1 ! {τ = wiresTy} (λ l₆. alloc1 ! {τ = answerTy} (λ l₇. alloc1 ! {τ = E′.mir} (λ l₈. alloc1 ! {τ = againTy} (λ l₉. alloc1 ! {τ = sliceTy againTy} (λ l₁₀. alloc1 ! {τ = onTy} (λ l₁₁. alloc0 ! $ params1 ! $
         pass1 ! (init ! 20 refl (tt, record { fits = n-fits })) $ pass1 ! (init ! 18 refl (tt, record { fits = m-fits })) $ pass1 ! (init ! 16 refl (tt, (tt, (record { fits = room-g .0 }, tt)))) $ pass1 ! (init ! 14 refl (tt, (tt, (record { fits = room-i .0 }, tt)))) $ pass1 ! (init ! 12 refl (tt, (tt, (record { fits = room-m .0 }, tt)))) $ pass1 ! (init ! 10 refl (tt, (tt, (record { fits = room-o .0 }, tt)))) $ pass1 ! (init ! 8 refl (tt, tt)) $ pass0 ! $
         move ! (25 ∷ []) $
-        fsplit ! $ drop ! $ fsplit ! $ drop ! $
-        fsplit ! $
+        fsplit ! $ drop ! $ fsplit ! $ drop ! $ fsplit ! $
         move ! (1 ∷ []) $
         fsplit ! $
         move ! (1 ∷ []) $
