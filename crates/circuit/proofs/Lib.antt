@@ -5,5 +5,6 @@ pub mod GateLaws
 pub mod SearchLaws
 pub mod CheckLaws
 pub mod ValueLaws
+pub mod OutputLaws
 pub mod PlainLaws
 pub mod RefusalLaws

@@ -1,2 +1,3 @@
 -- What the answers of this crate's inner functions say, in the model's terms.
 pub mod Answers
+pub mod Outputs

@@ -16,6 +16,7 @@ use model::Sizes;
 pub mod code;
 pub mod gates;
 pub mod header;
+pub mod outputs;
 pub mod refusal;
 pub mod values;
 

@@ -8,11 +8,12 @@ use lib.Dec.{eqb}
 use lib.ListN.{length, getD}
 use Rattle.model.specs.declared.Sizes.{Sizes}
 use Rattle.model.specs.Bytes.{be16}
-use Rattle.model.specs.Circuit.{markAt, circuitOf, lastWires}
+use Rattle.model.specs.Circuit.{markAt, circuitOf}
 use Rattle.model.specs.Material.{materialLength}
 use Rattle.model.specs.Refusals.{fine, refused, refuse, _then_, schemeVerdict, fileVerdict}
 use Rattle.model.specs.Operations.{sizesOf}
 use Rattle.model.proofs.Lists.{tabulate-length}
+use Rattle.model.proofs.Outputs.{outputs-many}
 use Rattle.material.specs.Answers.{sameSizes, sizesVerdict}
 
 -- ---- mark_at
@@ -85,5 +86,5 @@ pub ruleset file-cases = (file-short, file-mark, file-scheme-low, file-scheme-hi
 
 -- ---- the sizes are all of a circuit that 12 to 16 ask for
 pub file-verdict : (c : List ℕ) (z : Sizes) (s : List ℕ) → z ≡ sizesOf c → sizesVerdict z s ≡ fileVerdict (circuitOf c) s
-unfolding sizesVerdict sameSizes fileVerdict sizesOf circuitOf lastWires
-file-verdict c z s e = rw e (simp tabulate-length)
+unfolding sizesVerdict sameSizes fileVerdict sizesOf circuitOf
+file-verdict c z s e = rw e (simp (outputs-many c, tabulate-length))

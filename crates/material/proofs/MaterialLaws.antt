@@ -10,12 +10,13 @@ use Rattle.model.specs.declared.Ran.{Ran}
 use Rattle.model.specs.Circuit.{circuitOf, gates}
 use Rattle.model.specs.Refusals.{Verdict, fine, refused, _then_, numberOf, placeOf, verdictOf, fileVerdict, rowStart, lastVerdict, materialVerdict}
 use Rattle.model.specs.Operations.{ranOf}
+use Rattle.model.proofs.Outputs.{outputs-many}
 use Rattle.model.proofs.Verdicts.{Given, yes-given, Turned, no-turned}
 use Rattle.material.specs.declared.records.Cursor.{Cursor}
 use Rattle.material.specs.declared.records.Step.{Step}
 use Rattle.material.specs.Answers.{Accepted, Filed, sizesVerdict, stepOf, recordsVerdict, recordsAnswer, lastAt}
 use Rattle.material.proofs.FileLaws.{file-verdict}
-use Rattle.material.proofs.SizeLaws.{outputs-many, gates-many, is-m}
+use Rattle.material.proofs.SizeLaws.{gates-many, is-m}
 use Rattle.material.proofs.RowLaws.{last-start, file-holds}
 
 -- ---- 17 and 18 of a material whose header and length are right

@@ -13,9 +13,9 @@ use Rattle.model.specs.Material.{materialLength}
 use Rattle.model.specs.Refusals.{fine, schemeVerdict, fileVerdict, rowStart}
 use Rattle.model.proofs.Lists.{tabulate-snoc, tabulate-take}
 use Rattle.model.proofs.Circuits.{charges-snoc, charges-among}
+use Rattle.model.proofs.Outputs.{outputs-many}
 use Rattle.model.proofs.Verdicts.{then-fine, refuse-fine, and-both}
 use Rattle.material.specs.Reader.{recordBytes}
-use Rattle.material.proofs.SizeLaws.{outputs-many}
 
 -- ---- the records, one for each charged gate
 module _ (c s : List ℕ) where

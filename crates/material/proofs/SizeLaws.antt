@@ -7,7 +7,7 @@ use lib.ListN.{length}
 use Rattle.model.specs.declared.Gate.{Gate}
 use Rattle.model.specs.declared.Sizes.{Sizes}
 use Rattle.model.specs.declared.Checked.{Checked}
-use Rattle.model.specs.Circuit.{circuitOf, inputs, outputs, gates, gateAt, codeAt, charges, lastWires}
+use Rattle.model.specs.Circuit.{circuitOf, inputs, outputs, gates, gateAt, codeAt, charges}
 use Rattle.model.specs.Refusals.{circuitVerdict}
 use Rattle.model.specs.Operations.{sizesOf, checkedOf, checkAnswer}
 use Rattle.model.proofs.Lists.{tabulate-length, entry}
@@ -16,15 +16,11 @@ use Rattle.model.proofs.Verdicts.{yes-given}
 use Rattle.model.proofs.Accepted.{HeaderHolds, accepted-header}
 use Rattle.material.specs.Answers.{Accepted}
 
--- ---- as many inputs, outputs and gates as the header says, and gate k at k
+-- ---- as many inputs and gates as the header says, and gate k at k
 module _ (c : List ℕ) where
   pub inputs-same : circuitOf c .n ≡ inputs c
   unfolding circuitOf
   inputs-same = refl
-
-  pub outputs-many : length (circuitOf c .outputs) ≡ outputs c
-  unfolding circuitOf lastWires
-  outputs-many = tabulate-length (outputs c) _
 
   pub gates-many : length (circuitOf c .gates) ≡ gates c
   unfolding circuitOf

@@ -9,8 +9,9 @@ use lib.ListN.{length, getD}
 use Rattle.model.specs.Circuit.{circuitOf, outputs, gates, gateAt, kindOf, charge, charges}
 use Rattle.model.specs.Material.{rowsStored, materialLength}
 use Rattle.model.specs.Refusals.{fine, rowStart, lastVerdict, materialVerdict}
+use Rattle.model.proofs.Outputs.{outputs-many}
 use Rattle.model.proofs.Verdicts.{then-fine, refuse-fine, first-each}
-use Rattle.material.proofs.SizeLaws.{outputs-many, gates-many}
+use Rattle.material.proofs.SizeLaws.{gates-many}
 use Rattle.material.proofs.RowLaws.{last-start, row-room, FileHolds, file-holds}
 
 pub record WellFormed (c s : List ℕ) : Type 0 where

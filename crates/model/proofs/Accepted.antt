@@ -1,17 +1,18 @@
 -- An accepted circuit: its sizes and its gates keep their limits, and its outputs are wires of it. Assumes nothing.
 use Prim.Native.Nat.{ℕ, zero, suc, _+_, _*_, _-_, _≤_, _<_}
 use native.Mathlib.Omega.{arith}
-use mathlib.Core.Path.{_≡_}
+use mathlib.Core.Path.{_≡_, refl, ap₂}
 use mathlib.Core.Bool.{true, false}
-use mathlib.Core.List.{List, [], _∷_}
+use mathlib.Core.List.{List, [], _∷_, map}
 use borrow.Author.Tests.{ltb-true, leb-true, eqb-true, not-false}
-use lib.ListN.{length}
+use lib.ListN.{length, getD}
 use Rattle.model.specs.declared.Gate.{Gate}
 use Rattle.model.specs.Bytes.{from}
 use Rattle.model.specs.Circuit as C
-use Rattle.model.specs.Circuit.{Circuit, Kind, kindOf, inputs, outputs, gates, gateAt, gateWire, sizesHold, operandsHold, lastWires, circuitOf}
+use Rattle.model.specs.Circuit.{Circuit, Kind, kindOf, inputs, outputs, gates, gateAt, gateWire, sizesHold, operandsHold, circuitOf}
 use Rattle.model.specs.Refusals.{fine, isRefused, headVerdict, gateVerdict, recordVerdict, circuitVerdict}
 use Rattle.model.proofs.Lists.{tabulate-length}
+use Rattle.model.proofs.Outputs.{outputs-many, output-low, output-high}
 use Rattle.model.proofs.Verdicts.{then-fine, refuse-fine, and-both, first-each}
 use Rattle.model.proofs.Codes.{Used, used-charged, used-free}
 
@@ -103,6 +104,11 @@ pub data Within (n : ℕ) : List ℕ → Type 0 where
   none : Within n []
   more : {w : ℕ} {ws : List ℕ} → 1 ≤ w → w ≤ n → Within n ws → Within n (w ∷ ws)
 
+-- functions that agree on those agree on the list
+pub map-within : {A : Type 0} {n : ℕ} {ws : List ℕ} (f g : ℕ → A) → Within n ws → ((w : ℕ) → 1 ≤ w → w ≤ n → f w ≡ g w) → map f ws ≡ map g ws
+map-within f g none e = refl
+map-within f g (more {w = w} h l t) e = ap₂ _∷_ (e w h l) (map-within f g t e)
+
 pub record CircuitHolds (c : Circuit) : Type 0 where
   pub gates-hold : GatesHold (suc (c .n)) (c .gates)
   pub outputs-within : Within (c .n + length (c .gates)) (c .outputs)
@@ -114,19 +120,23 @@ gates-from s n i (suc k) h =
     let next : gateWire n (suc i) ≡ suc (gateWire n i) = omega arith in
     gate (h i (omega arith) (omega arith)) (rw next at (gates-from s n (suc i) k (λ j l u. h j (omega arith) (omega arith))))
 
-within-from : (n first i k : ℕ) → 1 ≤ first → first + i + k ≤ suc n → Within n (from i k (λ j. first + j))
-within-from n first i zero h l = none
-within-from n first i (suc k) h l = more {w = first + i} (omega arith) (omega arith) (within-from n first (suc i) k h (omega arith))
+within-each : (n : ℕ) (ws : List ℕ) → ((i : ℕ) → i < length ws → (1 ≤ getD ws i 0) × (getD ws i 0 ≤ n)) → Within n ws
+within-each n [] h = none
+within-each n (w ∷ ws) h =
+    let first = h 0 (omega arith) in
+    more (first .0) (first .1) (within-each n ws (λ i l. h (suc i) (omega arith)))
 
 pub accepted-circuit : (s : List ℕ) → circuitVerdict s ≡ fine → CircuitHolds (circuitOf s)
-unfolding circuitOf lastWires
+unfolding circuitOf
 accepted-circuit s e =
     let z = accepted-header s e .sizes in
     let n = inputs s in
     let q = gates s in
-    let m = outputs s in
     let first : gateWire n 0 ≡ suc n = omega arith in
     record {
       gates-hold = rw first at (gates-from s n 0 q (λ j l u. accepted-gate s j e (omega arith)));
-      outputs-within = rw (tabulate-length q (gateAt s)) (within-from (n + q) (n + q - m + 1) 0 m (omega arith) (omega arith));
+      outputs-within =
+          rw (tabulate-length q (gateAt s))
+          (within-each (n + q) (circuitOf s .outputs)
+          (λ i l. let h = rw (outputs-many s) at l in (output-low s i h, output-high s (omega (arith, z .m-high)) i h)));
     }

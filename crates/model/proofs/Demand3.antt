@@ -1,13 +1,13 @@
 -- Demand 3 holds: on every wire of every accepted circuit, from seed to output bit, in the bytes that the operations hand on. Assumes nothing.
 use Prim.Native.Nat.{ℕ, _+_, _*_, _-_, _≤_}
 use native.Mathlib.Omega.{arith}
-use mathlib.Core.Path.{_≡_, refl, sym, ap₂, _∙_}
+use mathlib.Core.Path.{_≡_, sym, _∙_}
 use mathlib.Core.List.{List, [], _∷_, _++_, map, append-assoc, append-nil}
 use borrow.Author.Tests.{le-ltb, le-leb, eq-eqb}
 use lib.ListN.{length, take}
 use lib.Seq.{take-at, length-take-le}
 use Rattle.model.specs.declared.Gate.{Gate}
-use Rattle.model.specs.Circuit.{inputs, outputs, gates, gateAt, lastWires, circuitOf, wire, wires, plainValues}
+use Rattle.model.specs.Circuit.{inputs, outputs, gates, gateAt, circuitOf, wire, wires, plainValues}
 use Rattle.model.specs.Aes.{Block, block}
 use Rattle.model.specs.Tokens.{Garbling, offset, inputZeros}
 use Rattle.model.specs.Garbling.{zeroStep, zeroTokens, inputOnes}
@@ -17,10 +17,11 @@ use Rattle.model.specs.Demand3.{Allowed, chained, chainMaterial, chainZe
 use Rattle.model.specs.Refusals.{fine, refuse, _then_, seedVerdict, valueVerdict, bitsVerdict, tokensVerdict, schemeVerdict, materialVerdict}
 use Rattle.model.specs.Operations.{garbleVerdict, encodeVerdict, evaluateVerdict, decodeVerdict}
 use Rattle.model.proofs.Lists.{tabulate-length}
+use Rattle.model.proofs.Outputs.{outputs-many}
 use Rattle.model.proofs.Tokens.{offset-is}
 use Rattle.model.proofs.Blocks as B
 use Rattle.model.proofs.Blocks.{Blocks, blocks-wide, join-length, join-append, cut-join, token-at-wire}
-use Rattle.model.proofs.Accepted.{Within, none, more, CircuitHolds, accepted-circuit, accepted-header}
+use Rattle.model.proofs.Accepted.{Within, none, more, map-within, CircuitHolds, accepted-circuit, accepted-header}
 use Rattle.model.proofs.Lengths.{input-zeros-blocks, input-ones-blocks, zero-tokens-blocks}
 use Rattle.model.proofs.Holds.{Holds, holds-distances, AllHold, hold-at, tokens-blocks}
 use Rattle.model.proofs.Verdicts.{first-all}
@@ -31,8 +32,7 @@ use Rattle.model.proofs.Chain.{decode-holds, material-ends, inputs-hold
 
 module _ {k : ℕ} {xs : List Block} (r : Blocks k xs) where
   tokens-at : {ws : List ℕ} → Within k ws → map (tokenAt (joinBlocks xs)) ws ≡ map (λ w. wire (block 0) xs w) ws
-  tokens-at none = refl
-  tokens-at (more h₁ h₂ t) = ap₂ _∷_ (token-at-wire r _ h₁ h₂) (tokens-at t)
+  tokens-at within = map-within (tokenAt (joinBlocks xs)) (λ w. wire (block 0) xs w) within (token-at-wire r)
 
   wires-blocks : {ws : List ℕ} → Within k ws → Blocks (length ws) (map (λ w. wire (block 0) xs w) ws)
   wires-blocks none = B.none
@@ -89,10 +89,6 @@ module _ (c seed : List ℕ) (scheme : ℕ) (values : List ℕ) (allowed : Allow
   unfolding circuitOf
   wires-many = rw (tabulate-length (gates c) (gateAt c))
 
-  outputs-many : length (circuitOf c .outputs) ≡ outputs c
-  unfolding circuitOf lastWires
-  outputs-many = tabulate-length (outputs c) _
-
   -- ---- what the operations hand on
 
   -- encode gets the inputs' zero and one tokens
@@ -134,11 +130,11 @@ module _ (c seed : List ℕ) (scheme : ℕ) (values : List ℕ) (allowed : Allow
 
   -- every wire holds its token
   wire-holds : (w : ℕ) → 1 ≤ w → w ≤ inputs c + gates c
-      → Holds (offset γ) (carries c seed scheme values w) (tokenAt (chainZeros c seed scheme values) w) (tokenAt (chainTokens c seed scheme values) w)
+      → Holds (offset γ) (carries c values w) (tokenAt (chainZeros c seed scheme values) w) (tokenAt (chainTokens c seed scheme values) w)
   unfolding carries
   wire-holds w h l = rw (left-at w h l, zero-at w h l) (hold-at all-held (w - 1) (omega (arith, as-many, wires-many)))
 
-  bits-decoded : chainBits c seed scheme values ≡ map (carries c seed scheme values) (circuitOf c .outputs)
+  bits-decoded : chainBits c seed scheme values ≡ map (carries c values) (circuitOf c .outputs)
   unfolding chainBits decodeBytes outputTokens decode chainMaterial carries
   bits-decoded =
       let within = holds .outputs-within in
@@ -151,13 +147,13 @@ module _ (c seed : List ℕ) (scheme : ℕ) (values : List ℕ) (allowed : Allow
   unfolding outputTokens
   outputs-long =
       let within = holds .outputs-within in
-      rw (tokens-are, tokens-at left-blocks within, ← outputs-many) (join-length (wires-blocks left-blocks within))
+      rw (tokens-are, tokens-at left-blocks within, ← outputs-many c) (join-length (wires-blocks left-blocks within))
 
   material-fine : materialVerdict (circuitOf c) (chainMaterial c seed scheme values) ≡ fine
   unfolding chainMaterial
   material-fine =
       let h = accepted-header c (allowed .accepted) .sizes in
-      own-material γ (allowed .scheme-low) (allowed .scheme-high) (rw wires-many (h .sum)) (rw outputs-many (omega (arith, h .m-high, h .sum)))
+      own-material γ (allowed .scheme-low) (allowed .scheme-high) (rw wires-many (h .sum)) (rw (outputs-many c) (omega (arith, h .m-high, h .sum)))
 
   bits-fine : bitsVerdict values ≡ fine
   unfolding valueVerdict refuse

@@ -23,6 +23,7 @@ pub mod HalfGates
 pub mod Schemes
 pub mod FreeGates
 pub mod Gates
+pub mod Outputs
 pub mod Accepted
 pub mod Holds
 pub mod Lengths

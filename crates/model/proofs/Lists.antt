@@ -76,6 +76,10 @@ tabulate-getD (x ∷ l) = ap (λ (r : List ℕ). x ∷ r) (from-suc 0 (length l)
 pub elements : (n : ℕ) (l : List ℕ) → length l ≡ n → tabulate n (λ i. getD l i 0) ≡ l
 elements n l h = ap (λ (n : ℕ). tabulate n (λ i. getD l i 0)) (sym h) ∙ tabulate-getD l
 
+-- a function on each of them
+pub map-elements : {A : Type 0} (g : ℕ → A) (n : ℕ) (l : List ℕ) → length l ≡ n → map g l ≡ tabulate n (λ i. g (getD l i 0))
+map-elements g n l h = ap (map g) (sym (elements n l h)) ∙ tabulate-map g n (λ i. getD l i 0)
+
 -- so is a part of a list
 pub part : (s : List ℕ) (at n : ℕ) → at + n ≤ length s → tabulate n (λ i. getD s (at + i) 0) ≡ take n (drop at s)
 part s at n h =

@@ -22,6 +22,10 @@ pub record Allowed (c seed : List ℕ) (scheme : ℕ) (values : List ℕ) : Type
   pub one-each : length values ≡ inputs c
   pub bits : (i : ℕ) → getD values i 0 ≤ 1
 
+-- what the plain circuit carries on wire w
+unfoldable pub carries : List ℕ → List ℕ → ℕ → ℕ
+carries c values w = wire 0 (plainValues (circuitOf c) values) w
+
 module _ (c seed : List ℕ) (scheme : ℕ) (values : List ℕ) where
   -- "The circuit is garbled by that scheme from that seed"
   abbrev pub chained : Garbling
@@ -48,10 +52,6 @@ module _ (c seed : List ℕ) (scheme : ℕ) (values : List ℕ) where
   unfoldable pub chainBits : List ℕ
   chainBits = decodeBytes (circuitOf c) (outputTokens (circuitOf c) chainTokens) chainMaterial
 
-  -- what the plain circuit carries on wire w
-  unfoldable pub carries : ℕ → ℕ
-  carries w = wire 0 (plainValues (circuitOf c) values) w
-
   -- "on every wire the distance .. between the token that evaluation leaves there and that wire's zero token"
   unfoldable pub distanceAt : ℕ → Block
   distanceAt w = distance (tokenAt chainTokens w) (tokenAt chainZeros w)
@@ -60,9 +60,9 @@ module _ (c seed : List ℕ) (scheme : ℕ) (values : List ℕ) where
   -- Decoding the tokens that evaluation left on the outputs, with the same material, gives exactly the bits that the plain
   -- circuit carries there, in the order of the outputs."
   pub record Demand3 : Type 0 where
-    pub at-zero : (w : ℕ) → 1 ≤ w → w ≤ inputs c + gates c → (distanceAt w ≡ block 0) ↔ (carries w ≡ 0)
-    pub at-one : (w : ℕ) → 1 ≤ w → w ≤ inputs c + gates c → (distanceAt w ≡ offset chained) ↔ (carries w ≡ 1)
-    pub decoded : chainBits ≡ map carries (circuitOf c .outputs)
+    pub at-zero : (w : ℕ) → 1 ≤ w → w ≤ inputs c + gates c → (distanceAt w ≡ block 0) ↔ (carries c values w ≡ 0)
+    pub at-one : (w : ℕ) → 1 ≤ w → w ≤ inputs c + gates c → (distanceAt w ≡ offset chained) ↔ (carries c values w ≡ 1)
+    pub decoded : chainBits ≡ map (carries c values) (circuitOf c .outputs)
 
   -- "With the arguments that demand 3 names, only 19 can refuse one of the four": each says what its buffers' rooms say
   pub record OnlyRoom : Type 0 where
