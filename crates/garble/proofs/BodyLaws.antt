@@ -1,28 +1,29 @@
 -- The gates and the last record: what the last record starts from, and the material whole. Assumes nothing.
-use Prim.Native.Nat.{ℕ, _+_, _*_, _-_, _≤_, _<_}
+use Prim.Native.Nat.{ℕ, _+_, _*_, _≤_}
 use native.Mathlib.Nat.{mul-le-mul}
 use native.Mathlib.Omega.{arith}
-use mathlib.Core.Path.{_≡_, sym, ap, _∙_}
-use mathlib.Core.List.{List, _∷_, _++_}
+use mathlib.Core.Path.{_≡_, ap, _∙_}
+use mathlib.Core.List.{List, _∷_, _++_, map}
 use lib.ListN.{length, length-append}
-use mir.Syntax.{w16, w64}
+use mir.Syntax.{w64}
 use mir.Val.{Fits}
 use Rattle.model.specs.declared.Sizes.{Sizes}
 use Rattle.model.specs.Bytes.{tabulate, over, put}
-use Rattle.model.specs.Circuit.{charges, circuitOf, inputs, outputs, gates, gateAt, lastWires, wire}
+use Rattle.model.specs.Circuit.{charges, circuitOf, inputs, outputs, gates, gateAt, wire}
 use Rattle.model.specs.Aes.{Block, block}
 use Rattle.model.specs.Tokens.{garblingOf, colour, inputZeros}
 use Rattle.model.specs.Garbling.{zeroTokens}
 use Rattle.model.specs.Material.{joinBlocks, header, records, lastRecord, material}
 use Rattle.model.specs.Evaluation.{tokenAt}
 use Rattle.model.specs.Operations.{sizesOf}
-use Rattle.model.proofs.Lists.{from-cong, tabulate-length, tabulate-map}
+use Rattle.model.proofs.Lists.{tabulate-length}
 use Rattle.model.proofs.Circuits.{charges-le}
 use Rattle.model.proofs.Buffers.{over-length, over-put}
-use Rattle.model.proofs.Blocks.{Blocks, join-length, join-at}
-use Rattle.model.proofs.Accepted.{HeaderHolds, accepted-header}
-use Rattle.model.proofs.Lengths.{zero-tokens-blocks, header-length, records-length}
-use Rattle.garble.specs.Walk.{WalkOf, GatesIs, LastStart, BodyStart, BodyIs}
+use Rattle.model.proofs.Blocks.{join-length, token-at-front}
+use Rattle.model.proofs.Outputs.{outputs-many}
+use Rattle.model.proofs.Accepted.{HeaderHolds, map-within, accepted-header, accepted-circuit}
+use Rattle.model.proofs.Lengths.{zero-tokens-blocks, header-length, records-length, last-length}
+use Rattle.garble.specs.Walk.{WalkOf, GatesIs, ColoursStart, BodyStart, BodyIs}
 use Rattle.garble.proofs.ChargedLaws.{rows-within}
 
 module _ (c seed : List ℕ) (scheme n r : ℕ) (R : Block) (w : List ℕ) (walk : WalkOf c seed scheme n r R w)
@@ -30,17 +31,9 @@ module _ (c seed : List ℕ) (scheme n r : ℕ) (R : Block) (w : List ℕ) (walk
   limits : HeaderHolds c
   limits = accepted-header c (walk .accepted)
 
-  is-n : s .n ≡ inputs c
-  unfolding sizesOf
-  is-n = ap (λ (x : Sizes). x .n) (start .sizes)
-
   is-m : s .m ≡ outputs c
   unfolding sizesOf
   is-m = ap (λ (x : Sizes). x .m) (start .sizes)
-
-  is-q : s .q ≡ gates c
-  unfolding sizesOf
-  is-q = ap (λ (x : Sizes). x .q) (start .sizes)
 
   is-p : s .p ≡ charges (tabulate (gates c) (gateAt c))
   unfolding sizesOf circuitOf
@@ -68,27 +61,11 @@ module _ (c seed : List ℕ) (scheme n r : ℕ) (R : Block) (w : List ℕ) (walk
   pub place-fits : Fits w64 (9 + s .p * (4 + 16 * r))
   place-fits = omega (arith, records-small)
 
-  pub wires-fit : Fits w64 (s .n + s .q)
-  wires-fit = omega (arith, is-n, is-q, limits .sizes .sum)
-
-  pub outputs-among : s .m ≤ s .n + s .q
-  outputs-among = omega (arith, is-m, is-q, limits .sizes .m-high)
-
-  pub first-fits : Fits w64 (s .n + s .q - s .m + 1)
-  first-fits = omega (arith, is-n, is-q, limits .sizes .sum)
-
-  -- and the first output's wire has 16 bits
-  pub first-wire : Fits w16 (s .n + s .q - s .m + 1)
-  first-wire = omega (arith, is-n, is-q, is-m, limits .sizes .sum, limits .sizes .m-low)
-
   -- ---- after the gates
   module _ (m1 z1 : List ℕ) (calls : ℕ) (done : GatesIs c seed scheme m z m1 z1 calls) where
-    tokens : Blocks (inputs c + gates c) (zeroTokens (garblingOf c seed scheme))
-    unfolding circuitOf
-    tokens = rw tabulate-length at (zero-tokens-blocks (garblingOf c seed scheme))
-
     so-many : length (joinBlocks (zeroTokens (garblingOf c seed scheme))) ≡ 16 * (inputs c + gates c)
-    so-many = join-length tokens
+    unfolding circuitOf
+    so-many = join-length (rw tabulate-length at (zero-tokens-blocks (garblingOf c seed scheme)))
 
     zeros-same : length z1 ≡ length z
     zeros-same =
@@ -110,31 +87,25 @@ module _ (c seed : List ℕ) (scheme n r : ℕ) (R : Block) (w : List ℕ) (walk
     unfolding so-far
     material-same = ap length (done .material-left) ∙ over-length so-far m (omega (arith, so-long, file-room))
 
-    pub body-last : LastStart z1 (s .n + s .q - s .m + 1) (s .m) m1 (9 + s .p * (4 + 16 * r))
+    pub body-last : ColoursStart c s z1 m1 (9 + s .p * (4 + 16 * r) + 2)
     body-last = record {
-      low = omega arith;
-      tokens = omega (arith, outputs-among, zeros-same, is-n, is-q, start .gates-start .wires-room);
+      accepted = walk .accepted;
+      sizes = start .sizes;
+      tokens = rw zeros-same (start .gates-start .wires-room);
       room = omega (arith, material-same, file-room);
     }
 
     -- the colours shown are those of the outputs' zero tokens
-    shown : (i : ℕ) → i < s .m → colour (tokenAt z1 (s .n + s .q - s .m + 1 + i)) ≡ colour (wire (block 0) (zeroTokens (garblingOf c seed scheme)) (inputs c + gates c - outputs c + 1 + i))
-    unfolding tokenAt over
-    shown i h =
-        let e : s .n + s .q - s .m + 1 + i ≡ inputs c + gates c - outputs c + 1 + i = rw (is-n, is-q, is-m) in
-        ap colour
-        (rw (e, done .zeros-left)
-        (join-at tokens (inputs c + gates c - outputs c + 1 + i - 1) (omega (arith, is-n, is-q, is-m, outputs-among)) _))
+    shown : (k : ℕ) → 1 ≤ k → k ≤ circuitOf c .n + length (circuitOf c .gates)
+        → colour (tokenAt z1 k) ≡ colour (wire (block 0) (zeroTokens (garblingOf c seed scheme)) k)
+    unfolding over
+    shown k l h = ap colour (rw (done .zeros-left) (token-at-front (zero-tokens-blocks (garblingOf c seed scheme)) k l h _))
 
-    last-is : 0x47 ∷ 0x44 ∷ tabulate (s .m) (λ i. colour (tokenAt z1 (s .n + s .q - s .m + 1 + i))) ≡ lastRecord (garblingOf c seed scheme)
-    unfolding lastRecord circuitOf lastWires
-    last-is =
-        ap (λ (l : List ℕ). 0x47 ∷ 0x44 ∷ l)
-        (from-cong 0 (s .m) (λ i. colour (tokenAt z1 (s .n + s .q - s .m + 1 + i)))
-        (λ i. colour (wire (block 0) (zeroTokens (garblingOf c seed scheme)) (inputs c + gates c - outputs c + 1 + i))) (λ i h. shown i (omega arith))
-        ∙ rw is-m (sym (tabulate-map (λ k. colour (wire (block 0) (zeroTokens (garblingOf c seed scheme)) k)) (outputs c) (λ i. inputs c + gates c - outputs c + 1 + i))))
+    last-is : 0x47 ∷ 0x44 ∷ map (λ k. colour (tokenAt z1 k)) (circuitOf c .outputs) ≡ lastRecord (garblingOf c seed scheme)
+    unfolding lastRecord
+    last-is = ap (λ (l : List ℕ). 0x47 ∷ 0x44 ∷ l) (map-within _ _ (accepted-circuit c (walk .accepted) .outputs-within) shown)
 
-    pub body-done : (m2 : List ℕ) → m2 ≡ put m1 (9 + s .p * (4 + 16 * r)) (0x47 ∷ 0x44 ∷ tabulate (s .m) (λ i. colour (tokenAt z1 (s .n + s .q - s .m + 1 + i))))
+    pub body-done : (m2 : List ℕ) → m2 ≡ put m1 (9 + s .p * (4 + 16 * r)) (0x47 ∷ 0x44 ∷ map (λ k. colour (tokenAt z1 k)) (circuitOf c .outputs))
         → BodyIs c seed scheme m z m2 z1 calls
     unfolding so-far material
     body-done m2 e = record {
@@ -143,6 +114,6 @@ module _ (c seed : List ℕ) (scheme n r : ℕ) (R : Block) (w : List ℕ) (walk
           e
           ∙ rw (last-is, done .material-left)
           (over-put so-far m (lastRecord (garblingOf c seed scheme)) (9 + s .p * (4 + 16 * r)) so-long
-          (omega (arith, file-room, ap length (sym last-is), tabulate-length (s .m) (λ i. colour (tokenAt z1 (s .n + s .q - s .m + 1 + i))))));
+          (omega (arith, file-room, last-length (garblingOf c seed scheme), outputs-many c, is-m)));
       calls-made = done .calls-made;
     }

@@ -7,7 +7,7 @@ use lib.ListN.{length, take, drop}
 use lib.Seq.{take-all, take-at}
 use Rattle.model.specs.declared.Sizes.{Sizes}
 use Rattle.model.specs.Bytes.{over}
-use Rattle.model.specs.Circuit.{charges, circuitOf, inputs, outputs, gates, lastWires}
+use Rattle.model.specs.Circuit.{charges, circuitOf, inputs, outputs, gates}
 use Rattle.model.specs.Aes.{Block, block, cipher, keyExpansion, aes}
 use Rattle.model.specs.Tokens.{garblingOf, coloured, seedBlock, offset, inputZeros, oneToken}
 use Rattle.model.specs.Garbling.{schemeOf, zeroTokens, inputOnes}
@@ -15,6 +15,7 @@ use Rattle.model.specs.Material.{joinBlocks, rowsStored, materialLength, header
 use Rattle.model.specs.Operations.{sizesOf}
 use Rattle.model.proofs.Lists.{tabulate-length, tabulate-map}
 use Rattle.model.proofs.Buffers.{over-length, over-over}
+use Rattle.model.proofs.Outputs.{outputs-many}
 use Rattle.model.proofs.Blocks.{join-length}
 use Rattle.model.proofs.Schemes.{rows-stored}
 use Rattle.model.proofs.Lengths.{input-zeros-blocks, zero-tokens-blocks, header-length, material-length}
@@ -69,8 +70,8 @@ module _ (c seed : List ℕ) (scheme : ℕ) (s : Sizes) (m z o : List ℕ) (star
     -- the fronts as they were written
     module _ (m1 z1 o1 : List ℕ) (front : FrontIs w R scheme (s .n) (s .m) (s .q) m z o m1 z1 o1) where
       header-is : m1 ≡ over (header (garblingOf c seed scheme)) m
-      unfolding header circuitOf lastWires
-      header-is = front .header-is ∙ rw (is-n, is-m, is-q, tabulate-length, tabulate-length)
+      unfolding header circuitOf
+      header-is = front .header-is ∙ rw (is-n, is-m, is-q, outputs-many c, tabulate-length)
 
       zeros-are : z1 ≡ over (joinBlocks (inputZeros (garblingOf c seed scheme))) z
       unfolding inputZeros seedBlock aes circuitOf
@@ -112,8 +113,7 @@ module _ (c seed : List ℕ) (scheme : ℕ) (s : Sizes) (m z o : List ℕ) (star
       -- the body as it was written
       module _ (m2 z2 : List ℕ) (calls : ℕ) (body : BodyIs c seed scheme m1 z1 m2 z2 calls) where
         material-long : length (material (garblingOf c seed scheme)) ≡ materialLength scheme (outputs c) (charges (circuitOf c .gates))
-        unfolding circuitOf lastWires
-        material-long = rw tabulate-length at (material-length (garblingOf c seed scheme) (start .scheme-low) (start .scheme-high))
+        material-long = rw (outputs-many c) at (material-length (garblingOf c seed scheme) (start .scheme-low) (start .scheme-high))
 
         header-within : 9 ≤ length (material (garblingOf c seed scheme))
         unfolding materialLength

@@ -112,17 +112,12 @@ pub record GatesIs (c seed : List ℕ) (scheme : ℕ) (m z m′ z′ : List ℕ)
 
 -- ---- the last record
 
--- tokens of the m wires from `first` on, and room for their colours
-pub record ColoursStart (z : List ℕ) (first m : ℕ) (f : List ℕ) (at : ℕ) : Type 0 where
-  pub low : 1 ≤ first
-  pub tokens : 16 * (first + m) ≤ length z + 16
-  pub room : at + m ≤ length f
-
--- the same with room for the record's head
-pub record LastStart (z : List ℕ) (first m : ℕ) (f : List ℕ) (at : ℕ) : Type 0 where
-  pub low : 1 ≤ first
-  pub tokens : 16 * (first + m) ≤ length z + 16
-  pub room : at + 2 + m ≤ length f
+-- an accepted circuit of sizes s, the tokens z of all its wires, and room for a colour of each output
+pub record ColoursStart (c : List ℕ) (s : Sizes) (z f : List ℕ) (at : ℕ) : Type 0 where
+  pub accepted : circuitVerdict c ≡ fine
+  pub sizes : s ≡ sizesOf c
+  pub tokens : 16 * (inputs c + gates c) ≤ length z
+  pub room : at + s .m ≤ length f
 
 -- ---- before the gates: the inputs and the header
 

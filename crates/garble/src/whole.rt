@@ -18,7 +18,6 @@ use block::load;
 use material::rows_stored;
 use material::writers::write_header;
 use model::Sizes;
-use model::Wire;
 
 // The inputs' tokens, and the material's header.
 fn garble_front(
@@ -59,8 +58,7 @@ fn garble_body(
 {
     let calls = garble_gates(m, w, ws, seed, plan, circuit, z.q, material, zeros);
     let at = 9 + z.p * (4 + 16 * plan.stored);
-    let first = Wire((z.n + z.q - z.m + 1) as u16);
-    write_last(zeros, first, z.m, material, at);
+    write_last(circuit, z, zeros, material, at);
     calls
 }
 
