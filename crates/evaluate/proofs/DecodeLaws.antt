@@ -10,10 +10,11 @@ use Rattle.model.specs.Circuit.{outputs}
 use Rattle.model.specs.Evaluation.{cut, decodeWith, decode, decodeBytes}
 use Rattle.model.specs.Refusals.{fine, verdictOf, circuitVerdict}
 use Rattle.model.specs.Operations.{sizesOf, decodeVerdict, DecodeIs}
+use Rattle.model.proofs.Outputs.{outputs-many}
 use Rattle.model.proofs.Verdicts.{Given, yes-given, Turned, no-turned, then-fine}
 use Rattle.circuit.specs.Answers.{readyOf}
 use Rattle.circuit.specs.declared.values.Ready.{Ready}
-use Rattle.material.proofs.SizeLaws.{outputs-many, is-m}
+use Rattle.material.proofs.SizeLaws.{is-m}
 use Rattle.evaluate.specs.Answers.{restVerdict, decodeReady}
 use Rattle.evaluate.specs.Last.{LastStart}
 use Rattle.evaluate.proofs.ReadyLaws.{RestHolds, rest-holds, decode-verdict}

@@ -5,6 +5,7 @@ pub mod LastLaws
 pub mod ReadyLaws
 pub mod EvaluateLaws
 pub mod DecodeLaws
+pub mod OutputLaws
 pub mod GateListLaws
 pub mod GoodWalk
 pub mod Again

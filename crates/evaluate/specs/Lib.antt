@@ -2,5 +2,6 @@
 pub mod Gate
 pub mod Walk
 pub mod Last
+pub mod Outputs
 pub mod Answers
 pub mod GateList

@@ -11,6 +11,7 @@ use model::Ran;
 pub mod gate; // one gate
 pub mod last; // decoding
 pub mod list; // a list of gate records
+pub mod outputs; // the outputs' tokens
 pub mod ready; // refusals
 pub mod walk; // all gates
 
