@@ -13,10 +13,10 @@ use Rattle.model.specs.Evaluation.{evaluateBytes}
 use Rattle.model.specs.Refusals.{verdictOf}
 use Rattle.model.specs.Operations.{no, evaluatedOf, evaluateVerdict, evaluateCallsOf, EvaluateIs}
 use Rattle.model.proofs.Verdicts.{Given, yes-given, then-fine}
-use Rattle.material.proofs.SizeLaws.{is-n, is-q}
+use Rattle.evaluate.specs.Outputs.{OutputsStart}
 use Rattle.evaluate.proofs.ReadyLaws.{evaluate-verdict, rest-holds}
 use Rattle.chain.specs.declared.Chained.{Chained}
-use Rattle.chain.specs.Parts.{EvaluateStart, DecodeStart, DecodeOn, EvaluateOn}
+use Rattle.chain.specs.Parts.{EvaluateStart, DecodeOn, EvaluateOn}
 use Rattle.chain.proofs.PartLaws.{over-long}
 
 module _ (c : List ℕ) (s : Sizes) (t : List ℕ) (start : EvaluateStart c s t) where
@@ -32,18 +32,19 @@ module _ (c : List ℕ) (s : Sizes) (t : List ℕ) (start : EvaluateStart c s t)
       told : Given (evaluateVerdict c (take (16 * s .n) t) f (length w)) k (evaluateCallsOf c (take (16 * s .n) t) f)
       told = yes-given _ k (evaluateCallsOf c (take (16 * s .n) t) f) (let e = answers .answered in rw h at e)
 
-      pub decode-ready : DecodeStart c s w′
+      pub decode-ready : OutputsStart c s w′
       decode-ready =
           let a = then-fine _ _ (rw (evaluate-verdict c (take (16 * s .n) t) f (length w)) at (told .is-fine)) .1 in
           let room = rest-holds c (inputs c) _ f _ _ a .roomy in
           record {
-            sized = start .sized;
+            accepted = start .sized .accepted;
+            sizes = start .sized .sizes;
             all-wires =
-                rw (is-n c s (start .sized), is-q c s (start .sized), answers .left, told .is-fine)
+                rw (answers .left, told .is-fine)
                 (omega (arith, room, over-long (evaluateBytes (circuitOf c) (take (16 * s .n) t) f) w));
           }
 
-      pub evaluate-on-done : (b : List ℕ) (r : Chained) (b′ : List ℕ) → DecodeOn c s f w′ b r b′ → EvaluateOn c s f t w b r w′ b′
+      pub evaluate-on-done : (b : List ℕ) (r : Chained) (b′ : List ℕ) → DecodeOn c f w′ b r b′ → EvaluateOn c s f t w b r w′ b′
       evaluate-on-done b (Chained.Decode e) b′ d = record { evaluate-is = rw (h, told .is-result) at answers; decode-is = d }
       evaluate-on-done b Chained.Done b′ d = record { evaluate-is = rw (h, told .is-result) at answers; decode-is = d }
       evaluate-on-done b (Chained.Garble e) b′ d = d

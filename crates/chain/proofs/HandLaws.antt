@@ -1,29 +1,31 @@
 -- What each call leaves, and so what the next one gets: the bytes that demand 3 speaks of. Assumes nothing.
-use Prim.Native.Nat.{ℕ, _+_, _*_, _-_, _≤_}
+use Prim.Native.Nat.{ℕ, _*_}
 use native.Mathlib.Omega.{arith}
-use mathlib.Core.Path.{_≡_, sym, _∙_}
+use mathlib.Core.Path.{_≡_, sym, ap, _∙_}
 use mathlib.Core.List.{List, map}
 use mathlib.Core.Bool.{Bool, true, false}
 use lib.Dec.{ltb}
-use lib.ListN.{length, take, drop, length-map}
+use lib.ListN.{length, take, length-map}
 use Rattle.model.specs.Bytes.{over}
-use Rattle.model.specs.Circuit.{charges, circuitOf, inputs, outputs, gates}
+use Rattle.model.specs.Circuit.{charges, circuitOf, inputs, outputs}
 use Rattle.model.specs.Tokens.{garblingOf}
-use Rattle.model.specs.Material.{materialLength, material}
+use Rattle.model.specs.Material.{joinBlocks, materialLength, material}
+use Rattle.model.specs.Evaluation.{outputTokens}
 use Rattle.model.specs.Refusals.{Verdict, fine, refused, refuse, _then_, roomVerdict}
 use Rattle.model.specs.Operations.{no, yes, sizesOf, Made, garbleVerdict, garbleMade, evaluateVerdict, evaluateCallsOf, GarbleIs, EncodeIs, EvaluateIs, DecodeIs}
 use Rattle.model.specs.Demand3.{Allowed, chainMaterial, chainZeros, chainOnes, chainInputs, chainTokens, chainBits, carries}
 use Rattle.model.proofs.Verdicts.{yes-given, no-turned}
-use Rattle.model.proofs.Accepted.{accepted-header}
+use Rattle.model.proofs.Outputs.{outputs-many}
+use Rattle.model.proofs.Accepted.{map-within, accepted-circuit}
 use Rattle.model.proofs.Lengths.{material-length}
 use Rattle.model.proofs.Demand3.{inputs-long, tokens-long, zeros-long, ones-long, only-room, demand-3}
-use Rattle.material.proofs.SizeLaws.{outputs-many}
+use Rattle.material.proofs.SizeLaws.{inputs-same, gates-many}
 use Rattle.garble.specs.Whole.{WholeStart}
 use Rattle.garble.specs.Written.{EncodeStart}
 use Rattle.garble.proofs.GarbleIsLaws.{garble-fine}
 use Rattle.garble.proofs.EncodeIsLaws.{encode-fine}
 use Rattle.chain.specs.Chain.{IsRoom}
-use Rattle.chain.proofs.PartLaws.{whole-front, front-part, inner-part, output-part}
+use Rattle.chain.proofs.PartLaws.{whole-front, front-part, token-over}
 
 -- ---- a refusal that the rooms give is 19
 
@@ -129,30 +131,28 @@ module _ (c seed : List ℕ) (scheme : ℕ) (f z o f′ z′ o′ : List ℕ) (m
       unfolding chainTokens
       wires-are = evaluated .left ∙ rw (evaluate-was-fine, tokens-handed, file-is v)
 
-      few-outputs : outputs c ≤ inputs c + gates c
-      few-outputs = let h = accepted-header c (garbled .accepted) .sizes in omega (arith, h .m-high)
-
-      outputs-handed : take (16 * outputs c) (drop (16 * (inputs c + gates c) - 16 * outputs c) w′)
-          ≡ take (16 * outputs c) (drop (16 * (inputs c + gates c) - 16 * outputs c) (chainTokens c seed scheme v))
+      outputs-handed : outputTokens (circuitOf c) w′ ≡ outputTokens (circuitOf c) (chainTokens c seed scheme v)
+      unfolding outputTokens
       outputs-handed =
           rw wires-are
-          (inner-part (chainTokens c seed scheme v) w (16 * outputs c) (16 * (inputs c + gates c) - 16 * outputs c)
-          (omega (arith, few-outputs, tokens-long c seed scheme v allowed)))
+          (ap joinBlocks
+          (map-within _ _ (accepted-circuit c (garbled .accepted) .outputs-within)
+          (λ k l h. token-over (chainTokens c seed scheme v) w k l (omega (arith, inputs-same c, gates-many c, tokens-long c seed scheme v allowed)))))
 
       pub decode-refused : (b b′ : List ℕ) (i x : ℕ)
-          → DecodeIs c (take (16 * outputs c) (drop (16 * (inputs c + gates c) - 16 * outputs c) w′)) file b (refused i x) b′ → IsRoom (refused i x)
+          → DecodeIs c (outputTokens (circuitOf c) w′) file b (refused i x) b′ → IsRoom (refused i x)
       decode-refused b b′ i x answers =
-          let e = rw (outputs-handed, output-part c (chainTokens c seed scheme v) few-outputs, file-is v) at (answers .answered) in
+          let e = rw (outputs-handed, file-is v) at (answers .answered) in
           room-only _ _ i x (e ∙ only-room c seed scheme v allowed .decode-room (length b))
 
       -- ---- decode ran
-      module _ (b b′ : List ℕ) (decoded : DecodeIs c (take (16 * outputs c) (drop (16 * (inputs c + gates c) - 16 * outputs c) w′)) file b fine b′) where
+      module _ (b b′ : List ℕ) (decoded : DecodeIs c (outputTokens (circuitOf c) w′) file b fine b′) where
         bits-are : b′ ≡ over (chainBits c seed scheme v) b
         unfolding chainBits
-        bits-are = decoded .left ∙ rw (← decoded .answered, outputs-handed, output-part c _ few-outputs, file-is v)
+        bits-are = decoded .left ∙ rw (← decoded .answered, outputs-handed, file-is v)
 
         bits-long : length (chainBits c seed scheme v) ≡ outputs c
-        bits-long = rw (demand-3 c seed scheme v allowed .decoded) (length-map (circuitOf c .outputs) (carries c seed scheme v) ∙ outputs-many c)
+        bits-long = rw (demand-3 c seed scheme v allowed .decoded) (length-map (circuitOf c .outputs) (carries c v) ∙ outputs-many c)
 
-        pub bits-handed : take (outputs c) b′ ≡ map (carries c seed scheme v) (circuitOf c .outputs)
+        pub bits-handed : take (outputs c) b′ ≡ map (carries c v) (circuitOf c .outputs)
         bits-handed = rw bits-are (whole-front _ b _ bits-long) ∙ demand-3 c seed scheme v allowed .decoded

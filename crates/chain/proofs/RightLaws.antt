@@ -11,7 +11,7 @@ use Rattle.model.specs.Operations.{sizesOf, garbleMade}
 use Rattle.model.specs.Demand3.{distanceAt, chainZeros, chainTokens}
 use Rattle.model.proofs.Demand3.{tokens-long, zeros-long, demand-3}
 use Rattle.chain.specs.declared.Chained.{Chained}
-use Rattle.chain.specs.Parts.{EncodeOn, outputPart}
+use Rattle.chain.specs.Parts.{EncodeOn}
 use Rattle.chain.specs.Chain.{WiresRight, BitsRight, file, GarbleRan, EncodeAnswers, EvaluateRan, DecodeAnswers, ChainIs}
 use Rattle.chain.proofs.PartLaws.{token-over}
 use Rattle.chain.proofs.HandLaws.{encode-refused, evaluate-refused, decode-refused, allowed, zeros-are, wires-are, bits-handed}
@@ -49,7 +49,7 @@ module _ (c seed : List ℕ) (scheme : ℕ) (v f z o t w b f′ z′ o′ t′ w
 module _ (c seed : List ℕ) (scheme : ℕ) (v f z o t w b f′ z′ o′ t′ w′ b′ : List ℕ) (ran : GarbleRan c seed scheme v f z o t w b f′ z′ o′ t′ w′ b′) where
   pub ended : (r : Chained) → EncodeOn c (sizesOf c) v (file c seed scheme v f z o t w b f′ z′ o′ t′ w′ b′) z′ o′ t w b r t′ w′ b′
       → ChainIs c seed scheme v f z o t w b r f′ z′ o′ t′ w′ b′
-  unfolding sizesOf outputPart
+  unfolding sizesOf
   ended (Chained.Garble x) d = absurd d
   ended (Chained.Encode x) d = record {
     garble-ran = ran;

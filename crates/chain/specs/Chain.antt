@@ -9,16 +9,16 @@
 --
 -- Letters: c is the circuit's bytes, v the value list. The six buffers are the material f, the zero tokens z, the one tokens o, the
 -- encoded tokens t, the tokens of all wires w and the bits b; f′, z′, o′, t′, w′, b′ are they when the chain has ended.
-use Prim.Native.Nat.{ℕ, _+_, _*_, _-_, _≤_}
+use Prim.Native.Nat.{ℕ, _+_, _*_, _≤_}
 use mathlib.Core.Path.{_≡_}
 use mathlib.Core.Logic.{_↔_}
 use mathlib.Core.List.{List, map}
-use lib.ListN.{take, drop}
+use lib.ListN.{take}
 use Rattle.model.specs.Circuit.{charges, circuitOf, inputs, outputs, gates}
 use Rattle.model.specs.Aes.{block}
 use Rattle.model.specs.Tokens.{garblingOf, offset, distance}
 use Rattle.model.specs.Material.{materialLength}
-use Rattle.model.specs.Evaluation.{tokenAt}
+use Rattle.model.specs.Evaluation.{tokenAt, outputTokens}
 use Rattle.model.specs.Refusals.{Verdict, fine, refused, verdictOf}
 use Rattle.model.specs.Operations.{Answer, yes, no, garbleMade, evaluateCallsOf, GarbleIs, EncodeIs, EvaluateIs, DecodeIs}
 use Rattle.model.specs.Demand3.{Allowed, carries}
@@ -28,13 +28,13 @@ use Rattle.chain.specs.declared.Chained.{Chained}
 pub record WiresRight (c seed : List ℕ) (scheme : ℕ) (v z′ w′ : List ℕ) : Type 0 where
   pub allowed : Allowed c seed scheme v
   pub at-zero : (k : ℕ) → 1 ≤ k → k ≤ inputs c + gates c
-      → (distance (tokenAt w′ k) (tokenAt z′ k) ≡ block 0) ↔ (carries c seed scheme v k ≡ 0)
+      → (distance (tokenAt w′ k) (tokenAt z′ k) ≡ block 0) ↔ (carries c v k ≡ 0)
   pub at-one : (k : ℕ) → 1 ≤ k → k ≤ inputs c + gates c
-      → (distance (tokenAt w′ k) (tokenAt z′ k) ≡ offset (garblingOf c seed scheme)) ↔ (carries c seed scheme v k ≡ 1)
+      → (distance (tokenAt w′ k) (tokenAt z′ k) ≡ offset (garblingOf c seed scheme)) ↔ (carries c v k ≡ 1)
 
 -- the decoded bytes
 pub record BitsRight (c seed : List ℕ) (scheme : ℕ) (v b′ : List ℕ) : Type 0 where
-  pub decoded : take (outputs c) b′ ≡ map (carries c seed scheme v) (circuitOf c .outputs)
+  pub decoded : take (outputs c) b′ ≡ map (carries c v) (circuitOf c .outputs)
 
 -- refusal 19, a buffer too short: "With the arguments that demand 3 names, only 19 can refuse one of the four"
 pub record IsRoom (e : Verdict) : Type 0 where
@@ -65,7 +65,7 @@ module _ (c seed : List ℕ) (scheme : ℕ) (v f z o t w b f′ z′ o′ t′ w
 
   -- "decode gets that material and evaluate's tokens of the m outputs"
   abbrev pub DecodeAnswers : Verdict → Type 0
-  DecodeAnswers r = DecodeIs c (take (16 * outputs c) (drop (16 * (inputs c + gates c) - 16 * outputs c) w′)) file b r b′
+  DecodeAnswers r = DecodeIs c (outputTokens (circuitOf c) w′) file b r b′
 
   -- ---- where the chain ended
 

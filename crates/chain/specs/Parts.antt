@@ -1,9 +1,11 @@
 -- What each call of the chain hands to the next. Document 01, "Operations".
-use Prim.Native.Nat.{ℕ, _+_, _*_, _-_, _≤_}
+use Prim.Native.Nat.{ℕ, _*_, _≤_}
 use mathlib.Core.Path.{_≡_}
 use mathlib.Core.List.{List}
-use lib.ListN.{length, take, drop}
+use lib.ListN.{length, take}
 use Rattle.model.specs.declared.Sizes.{Sizes}
+use Rattle.model.specs.Circuit.{circuitOf}
+use Rattle.model.specs.Evaluation.{outputTokens}
 use Rattle.model.specs.Refusals.{fine, verdictOf}
 use Rattle.model.specs.Operations.{yes, no, evaluateCallsOf, EncodeIs, EvaluateIs, DecodeIs}
 use Rattle.material.specs.Answers.{Accepted}
@@ -11,20 +13,12 @@ use Rattle.chain.specs.declared.Chained.{Chained}
 
 -- ---- decode: "that material and evaluate's tokens of the m outputs"
 
--- the last m tokens of all wires
-unfoldable pub outputPart : Sizes → List ℕ → List ℕ
-outputPart s w = take (16 * s .m) (drop (16 * (s .n + s .q) - 16 * s .m) w)
-
-pub record DecodeStart (c : List ℕ) (s : Sizes) (w : List ℕ) : Type 0 where
-  pub sized : Accepted c s
-  pub all-wires : 16 * (s .n + s .q) ≤ length w
-
-abbrev pub DecodeOn : List ℕ → Sizes → List ℕ → List ℕ → List ℕ → Chained → List ℕ → Type 0
-DecodeOn c s f w b (Chained.Decode e) b′ = DecodeIs c (outputPart s w) f b (verdictOf e) b′
-DecodeOn c s f w b Chained.Done b′ = DecodeIs c (outputPart s w) f b fine b′
-DecodeOn c s f w b (Chained.Garble e) b′ = ⊥
-DecodeOn c s f w b (Chained.Encode e) b′ = ⊥
-DecodeOn c s f w b (Chained.Evaluate e) b′ = ⊥
+abbrev pub DecodeOn : List ℕ → List ℕ → List ℕ → List ℕ → Chained → List ℕ → Type 0
+DecodeOn c f w b (Chained.Decode e) b′ = DecodeIs c (outputTokens (circuitOf c) w) f b (verdictOf e) b′
+DecodeOn c f w b Chained.Done b′ = DecodeIs c (outputTokens (circuitOf c) w) f b fine b′
+DecodeOn c f w b (Chained.Garble e) b′ = ⊥
+DecodeOn c f w b (Chained.Encode e) b′ = ⊥
+DecodeOn c f w b (Chained.Evaluate e) b′ = ⊥
 
 -- ---- evaluate: "encode's bytes and garble's material"
 
@@ -35,7 +29,7 @@ pub record EvaluateStart (c : List ℕ) (s : Sizes) (t : List ℕ) : Type 0 wher
 -- evaluate ran, and decode after it
 pub record Evaluated (c : List ℕ) (s : Sizes) (f t w b : List ℕ) (r : Chained) (w′ b′ : List ℕ) : Type 0 where
   pub evaluate-is : EvaluateIs c (take (16 * s .n) t) f w (yes (evaluateCallsOf c (take (16 * s .n) t) f)) w′
-  pub decode-is : DecodeOn c s f w′ b r b′
+  pub decode-is : DecodeOn c f w′ b r b′
 
 abbrev pub EvaluateOn : List ℕ → Sizes → List ℕ → List ℕ → List ℕ → List ℕ → Chained → List ℕ → List ℕ → Type 0
 EvaluateOn c s f t w b (Chained.Evaluate e) w′ b′ = EvaluateIs c (take (16 * s .n) t) f w (no (verdictOf e)) w′ × (b′ ≡ b)

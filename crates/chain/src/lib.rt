@@ -1,9 +1,11 @@
 // The chain of demand 3 (01, Operations): garble, encode, evaluate and decode in turn, on one circuit.
+ghost use Rattle.evaluate.specs.Outputs.{OutputsStart};
 ghost use Rattle.chain.specs.Chain.{ChainIs};
-ghost use Rattle.chain.specs.Parts.{EncodeStart, EncodeOn, EvaluateStart, EvaluateOn, DecodeStart, DecodeOn};
+ghost use Rattle.chain.specs.Parts.{EncodeStart, EncodeOn, EvaluateStart, EvaluateOn, DecodeOn};
 use circuit::check;
 use evaluate::decode;
 use evaluate::evaluate;
+use evaluate::outputs::output_tokens;
 use garble::encode;
 use garble::garble;
 use model::Checked;
@@ -22,14 +24,12 @@ pub enum Chained {
     Decode(Refusal),
 }
 
-// Decode gets the material and evaluate's tokens of the m outputs, the last m wires.
+// Decode gets the material and evaluate's tokens of the m outputs.
 fn decode_on(circuit: &[u8], z: Sizes, material: &[u8], wires: &[u8], bits: &mut [u8]) -> Chained
-    requires { ⌜ DecodeStart (now circuit) z (now wires) ⌝ }
-    ensures { λ r. ⌜ DecodeOn (now (circuit .entry)) z (now (material .entry)) (now (wires .entry)) (now (bits .entry)) r (now (bits .exit)) ⌝ }
+    requires { ⌜ OutputsStart (now circuit) z (now wires) ⌝ }
+    ensures { λ r. ⌜ DecodeOn (now (circuit .entry)) (now (material .entry)) (now (wires .entry)) (now (bits .entry)) r (now (bits .exit)) ⌝ }
 {
-    let end = 16 * (z.n + z.q);
-    let from = end - 16 * z.m;
-    match decode(circuit, &wires[from..end], material, bits) {
+    match decode(circuit, output_tokens(circuit, z, wires), material, bits) {
         Ran::Refused(f) => Chained::Decode(f),
         Ran::Done => Chained::Done,
     }
