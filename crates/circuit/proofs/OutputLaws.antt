@@ -25,18 +25,19 @@ module _ (c : List ℕ) (z : Sizes) (i : ℕ) (start : OutputStart c z i) where
   unfolding sizesOf
   output-among = rw (start .sizes) (omega (arith, limits .m-high))
 
-  pub output-first : Fits w64 (z .n + z .q - z .m + 1)
-  unfolding sizesOf
-  output-first = rw (start .sizes) (omega (arith, limits .sum))
+  module _ (x : ℕ) (h : x ≤ 1) where
+    pub output-first : Fits w64 (z .n + z .q - z .m + x)
+    unfolding sizesOf
+    output-first = rw (start .sizes) (omega (arith, limits .sum))
 
-  pub output-sum : Fits w64 (z .n + z .q - z .m + 1 + i)
-  unfolding sizesOf
-  output-sum = rw (start .sizes) (omega (arith, limits .sum, limits .m-high, start .more))
+    pub output-sum : Fits w64 (z .n + z .q - z .m + x + i)
+    unfolding sizesOf
+    output-sum = rw (start .sizes) (omega (arith, limits .sum, limits .m-high, start .more))
 
-  -- a wire has 16 bits
-  pub output-fits : Fits w16 (z .n + z .q - z .m + 1 + i)
-  unfolding sizesOf
-  output-fits = rw (start .sizes) (omega (arith, limits .sum, limits .m-high, start .more))
+    -- a wire has 16 bits
+    pub output-fits : Fits w16 (z .n + z .q - z .m + x + i)
+    unfolding sizesOf
+    output-fits = rw (start .sizes) (omega (arith, limits .sum, limits .m-high, start .more))
 
   pub output-is : z .n + z .q - z .m + 1 + i ≡ getD (circuitOf c .outputs) i 0
   unfolding sizesOf

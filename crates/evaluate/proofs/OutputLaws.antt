@@ -34,15 +34,12 @@ module _ (c : List ℕ) (z : Sizes) (w : List ℕ) (start : OutputsStart c z w) 
     pub tokens-wire : 1 ≤ k
     tokens-wire = rw is-k (O.output-low c 0 (limits .m-low))
 
+    pub tokens-sum : (x : ℕ) → x ≤ 1 → Fits w64 (16 * (k - x) + 16 * z .m)
+    tokens-sum x h = omega (arith, is-k, is-m, O.output-at c 0 (limits .m-low), limits .m-high, limits .sum)
+
     -- it and the outputs after it end with the last wire
-    last : 16 * (k - 1) + 16 * z .m ≡ 16 * (inputs c + gates c)
-    last = omega (arith, is-k, is-m, O.output-at c 0 (limits .m-low), limits .m-high)
-
-    pub tokens-sum : Fits w64 (16 * (k - 1) + 16 * z .m)
-    tokens-sum = omega (arith, last, limits .sum)
-
     pub tokens-end : 16 * (k - 1) + 16 * z .m ≤ length w
-    tokens-end = omega (arith, last, start .all-wires)
+    tokens-end = omega (arith, is-k, is-m, O.output-at c 0 (limits .m-low), limits .m-high, start .all-wires)
 
     pub tokens-are : (r : List ℕ) → r ≡ take (16 * (k - 1) + 16 * z .m - 16 * (k - 1)) (drop (16 * (k - 1)) w) → r ≡ outputTokens (circuitOf c) w
     tokens-are r e =

@@ -42,6 +42,20 @@ module _ (c : List ℕ) (s : Sizes) (z o : List ℕ) (at : ℕ) (start : Colours
   pub colours-start : Writing c z at o 0 o
   colours-start = record { within = omega arith; same-length = refl; so-far = put-none o at }
 
+  -- an output, and its wire as it was told
+  module _ (j : ℕ) (h : j < s .m) where
+    pub colours-output : OutputStart c s j
+    colours-output = record { accepted = start .accepted; sizes = start .sizes; more = rw is-m at h }
+
+    module _ (w : ℕ) (is-w : w ≡ getD (circuitOf c .outputs) j 0) where
+      pub colours-wire : 1 ≤ w
+      colours-wire = rw is-w (output-low c j (rw is-m at h))
+
+      pub colours-token : 16 * (w - 1) + 16 ≤ length z
+      colours-token =
+          let few : outputs c ≤ inputs c + gates c = omega (arith, accepted-header c (start .accepted) .sizes .m-high) in
+          omega (arith, is-w, colours-wire, output-high c few j (rw is-m at h), start .tokens)
+
   module _ (i : ℕ) (d : List ℕ) (inv : Writing c z at o i d) where
     pub colours-end : s .m ≤ i → d ≡ put o at (map (λ w. colour (tokenAt z w)) (circuitOf c .outputs))
     colours-end h =
@@ -49,38 +63,23 @@ module _ (c : List ℕ) (s : Sizes) (z o : List ℕ) (at : ℕ) (start : Colours
         rw (map-elements (λ w. colour (tokenAt z w)) i (circuitOf c .outputs) e) (inv .so-far)
 
     module _ (h : i < s .m) where
-      more : i < outputs c
-      more = omega (arith, is-m)
-
-      pub colours-output : OutputStart c s i
-      colours-output = record { accepted = start .accepted; sizes = start .sizes; more = more }
-
       pub colours-slot : at + i < length d
       colours-slot = omega (arith, inv .same-length, start .room)
 
-      -- its wire, as it was told
-      module _ (w : ℕ) (is-w : w ≡ getD (circuitOf c .outputs) i 0) where
-        pub colours-wire : 1 ≤ w
-        colours-wire = rw is-w (output-low c i more)
+      pub colours-turn : (w : ℕ) → w ≡ getD (circuitOf c .outputs) i 0 → (x : List ℕ) (v : ℕ) → x ≡ take 16 (drop (16 * (w - 1)) z) → v ≡ colour x
+          → Writing c z at o (i + 1) (set d (at + i) v)
+      unfolding tokenAt
+      colours-turn w is-w x v e f = record {
+        within = omega (arith, is-m);
+        same-length = simp length-set (inv .same-length);
+        so-far =
+            set-put d (at + i) v colours-slot
+            ∙ rw (inv .so-far, add-one, tabulate-snoc i (colourAt c z), f, e, is-w)
+            (put-put o at (tabulate i (colourAt c z)) (_ ∷ []) (at + i)
+            (omega (arith, tabulate-length i (colourAt c z))) (omega (arith, tabulate-length i (colourAt c z), start .room)));
+      }
 
-        pub colours-token : 16 * (w - 1) + 16 ≤ length z
-        colours-token =
-            let few : outputs c ≤ inputs c + gates c = omega (arith, accepted-header c (start .accepted) .sizes .m-high) in
-            omega (arith, is-w, colours-wire, output-high c few i more, start .tokens)
-
-        pub colours-turn : (x : List ℕ) (v : ℕ) → x ≡ take 16 (drop (16 * (w - 1)) z) → v ≡ colour x → Writing c z at o (i + 1) (set d (at + i) v)
-        unfolding tokenAt
-        colours-turn x v e f = record {
-          within = omega (arith, more);
-          same-length = simp length-set (inv .same-length);
-          so-far =
-              set-put d (at + i) v colours-slot
-              ∙ rw (inv .so-far, add-one, tabulate-snoc i (colourAt c z), f, e, is-w)
-              (put-put o at (tabulate i (colourAt c z)) (_ ∷ []) (at + i)
-              (omega (arith, tabulate-length i (colourAt c z))) (omega (arith, tabulate-length i (colourAt c z), start .room)));
-        }
-
-pub ruleset colours-cases = (colours-start, colours-end, colours-output, colours-slot, colours-wire, colours-token, colours-turn)
+pub ruleset colours-cases = (colours-start, colours-end, colours-output, colours-wire, colours-token, colours-slot, colours-turn)
 
 -- ---- the record whole
 module _ (c : List ℕ) (s : Sizes) (z o : List ℕ) (at : ℕ) (start : ColoursStart c s z o (at + 2)) (d : List ℕ) (is-d : d ≡ put o at (0x47 ∷ 0x44 ∷ [])) where

@@ -16,7 +16,7 @@ returns c = colours-end _ _ _ _ _ (c .before .before .before .before .before .be
 pub write-colours-spec : {M : Type 1} → statement M
 write-colours-spec =
     tie.close
-    (tie.spec Inv-loop μ-loop (λ c. search colours-cases) (λ c κs. search colours-cases) (λ c. search needs)
-    (λ c. search colours-cases) (λ c. search needs) (λ c κs. search colours-cases) (λ c κs. search needs)
+    (tie.spec Inv-loop μ-loop (λ c. search colours-cases) (λ c κs. search (colours-cases, needs))
+    (λ c. search needs) (λ c. search (colours-cases, needs)) (λ c. search needs) (λ c κs. search (colours-cases, needs)) (λ c κs. search needs)
     (λ c. search needs) (λ c. search needs) (λ c. search needs) (λ c. search needs) (λ c. search colours-cases)
     (λ c. search needs) returns)
