@@ -6,3 +6,4 @@ mod Packing
 mod Tables
 mod Columns
 mod Spreads
+mod FoldedLaws

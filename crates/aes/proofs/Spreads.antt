@@ -20,8 +20,7 @@ key-last k p q r s =
     ∙ xor-assoc k (bitXor (bitXor p q) r) s
     ∙ xor-comm k (bitXor (bitXor (bitXor p q) r) s)
 
--- the columns s, looked up in the tables m one after the other; the words k are the key of round r of the schedule w
-module _ (m : List ℕ) (is-m : IsTTables m) (w : List ℕ) (r : ℕ) (s k : Words) (is-k : IsRoundKey w r k) where
+module _ (m : List ℕ) where
   -- row i of a column x, looked up
   abbrev t0 : ℕ → ℕ
   t0 x = getD m (x % 256) 0
@@ -36,7 +35,7 @@ module _ (m : List ℕ) (is-m : IsTTables m) (w : List ℕ) (r : ℕ) (s k : Wor
   t3 x = getD m (768 + byteOf x 3) 0
 
   -- the column whose rows come from the columns a, b, c and d
-  abbrev made : ℕ → ℕ → ℕ → ℕ → ℕ
+  abbrev pub made : ℕ → ℕ → ℕ → ℕ → ℕ
   made a b c d = bitXor (bitXor (bitXor (t0 a) (t1 b)) (t2 c)) (t3 d)
 
   -- each column has its look-ups in the order in which the columns before it came
@@ -56,25 +55,40 @@ module _ (m : List ℕ) (is-m : IsTTables m) (w : List ℕ) (r : ℕ) (s k : Wor
       key-last y (t1 b) (t2 c) (t3 d) (t0 a)
       ∙ ap (λ (z : ℕ). bitXor z y) (turn (t1 b) (t2 c) (t3 d) (t0 a) ∙ turn (t2 c) (t3 d) (t0 a) (t1 b) ∙ turn (t3 d) (t0 a) (t1 b) (t2 c))
 
-  module _ (p q u v : Words) (one : Spread m k (s .a) p) (two : Spread m p (s .b) q) (three : Spread m q (s .c) u) (four : Spread m u (s .d) v) where
-    is-a : v .a ≡ bitXor (made (s .a) (s .b) (s .c) (s .d)) (k .a)
+  -- the columns s, looked up one after the other, into the words k
+  module _ (s k p q u v : Words) (one : Spread m k (s .a) p) (two : Spread m p (s .b) q) (three : Spread m q (s .c) u) (four : Spread m u (s .d) v) where
+    pub is-a : v .a ≡ bitXor (made (s .a) (s .b) (s .c) (s .d)) (k .a)
     is-a = rw (four .row-3, three .row-2, two .row-1, one .row-0) (from-0 (k .a) (s .a) (s .b) (s .c) (s .d))
 
-    is-b : v .b ≡ bitXor (made (s .b) (s .c) (s .d) (s .a)) (k .b)
+    pub is-b : v .b ≡ bitXor (made (s .b) (s .c) (s .d) (s .a)) (k .b)
     is-b = rw (four .row-2, three .row-1, two .row-0, one .row-3) (from-3 (k .b) (s .b) (s .c) (s .d) (s .a))
 
-    is-c : v .c ≡ bitXor (made (s .c) (s .d) (s .a) (s .b)) (k .c)
+    pub is-c : v .c ≡ bitXor (made (s .c) (s .d) (s .a) (s .b)) (k .c)
     is-c = rw (four .row-1, three .row-0, two .row-3, one .row-2) (from-2 (k .c) (s .c) (s .d) (s .a) (s .b))
 
-    is-d : v .d ≡ bitXor (made (s .d) (s .a) (s .b) (s .c)) (k .d)
+    pub is-d : v .d ≡ bitXor (made (s .d) (s .a) (s .b) (s .c)) (k .d)
     is-d = rw (four .row-0, three .row-3, two .row-2, one .row-1) (from-1 (k .d) (s .d) (s .a) (s .b) (s .c))
 
-    pub round-state : stateOf v ≡ aesRound w r (stateOf s)
+  -- and the words k are the key of round r of the schedule w
+  module _ (is-m : IsTTables m) (w : List ℕ) (r : ℕ) (s k v : Words) (is-k : IsRoundKey w r k) where
+    pub keyed-round :
+        v .a ≡ bitXor (made (s .a) (s .b) (s .c) (s .d)) (k .a)
+        → v .b ≡ bitXor (made (s .b) (s .c) (s .d) (s .a)) (k .b)
+        → v .c ≡ bitXor (made (s .c) (s .d) (s .a) (s .b)) (k .c)
+        → v .d ≡ bitXor (made (s .d) (s .a) (s .b) (s .c)) (k .d)
+        → stateOf v ≡ aesRound w r (stateOf s)
     unfolding aesRound stateOf
-    round-state =
-        rw (is-a, is-b, is-c, is-d)
+    keyed-round a b c d =
+        rw (a, b, c, d)
         (keyed-state w r _ _ _ _ (k .a) (k .b) (k .c) (k .d) (is-k .is-a) (is-k .is-b) (is-k .is-c) (is-k .is-d)
         ∙ ap (addRoundKey w r)
         (mixed-state (s .a) (s .b) (s .c) (s .d) _ _ _ _ (mixed-word m is-m (s .a) (s .b) (s .c) (s .d))
         (mixed-word m is-m (s .b) (s .c) (s .d) (s .a)) (mixed-word m is-m (s .c) (s .d) (s .a) (s .b))
         (mixed-word m is-m (s .d) (s .a) (s .b) (s .c))))
+
+-- a round whose columns are spread into its key
+pub round-state : (m : List ℕ) → IsTTables m → (w : List ℕ) (r : ℕ) (s k : Words) → IsRoundKey w r k → (p q u v : Words) →
+    Spread m k (s .a) p → Spread m p (s .b) q → Spread m q (s .c) u → Spread m u (s .d) v → stateOf v ≡ aesRound w r (stateOf s)
+round-state m is-m w r s k is-k p q u v one two three four =
+    keyed-round m is-m w r s k v is-k (is-a m s k p q u v one two three four) (is-b m s k p q u v one two three four)
+    (is-c m s k p q u v one two three four) (is-d m s k p q u v one two three four)

@@ -5,6 +5,7 @@ mod schedule; // key expansion
 mod cipher; // the rounds
 mod lookup; // SubBytes and MixColumns as tables
 mod packed; // the steps of a round by the tables
+mod folded; // the same with two columns in a word
 mod fast; // the rounds by the tables, of one block and of two
 
 pub use cipher::encrypt;

@@ -112,8 +112,20 @@ impl Words {
         Words { a, b, c, d }
     }
 
+    // No column yet: what columns are spread into.
+    pub fn none() -> Words
+        ensures { λ r. ⌜ r ≡ record { a = 0; b = 0; c = 0; d = 0 } ⌝ }
+    {
+        Words {
+            a: 0,
+            b: 0,
+            c: 0,
+            d: 0,
+        }
+    }
+
     // The key of round r: four words of the schedule.
-    fn round_key(w: &[u8; 176], r: usize) -> Words
+    pub fn round_key(w: &[u8; 176], r: usize) -> Words
         requires { ⌜ r < 11 ⌝ }
         ensures { λ k. ⌜ IsRoundKey (now (w .entry)) r k ⌝ }
     {
@@ -142,7 +154,7 @@ impl Words {
     // What a column x of the state before gives to the four columns after SubBytes, ShiftRows and MixColumns, exclusive-ored in: its
     // row 0 goes to its own column, which is the first here, row 1 to the one before, and so on around. Then the next column comes
     // first: after four columns they stand in their order again.
-    fn spread(self, m: &[u32; 1024], x: u32) -> Words
+    pub fn spread(self, m: &[u32; 1024], x: u32) -> Words
         ensures { λ q. ⌜ Spread (now (m .entry)) self x q ⌝ }
     {
         let a = self.a ^ m[(x % 256) as usize];
