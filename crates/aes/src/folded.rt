@@ -1,5 +1,5 @@
-// The state folded: two packed columns in each of two words. Where two blocks go through the rounds side by side, one of them is held
-// like this between its turns: both then fit the registers, which eight words and what is made of them do not.
+// The state with its last two columns folded into one word. Where two blocks go through the rounds side by side, one of them is held
+// like this between its turns: eight columns and what is made of them do not fit the registers, seven words do.
 use crate::packed::Words;
 use block::Block;
 ghost use mathlib.Core.Path.{_≡_};
@@ -8,9 +8,10 @@ ghost use Rattle.model.specs.Aes.{addRoundKey, aesRound};
 ghost use Rattle.aes.specs.Tables.{stateOf, IsTTables};
 ghost use Rattle.aes.specs.Folded.{columns, Joined};
 
-// The four columns, the earlier one of two in the lower half.
+// Four columns, the last two in one word, the third in its lower half.
 pub struct Folded {
-    pub ab: u64,
+    pub a: u32,
+    pub b: u32,
     pub cd: u64,
 }
 
@@ -26,9 +27,8 @@ impl Folded {
     fn of_words(s: Words) -> Folded
         ensures { λ r. ⌜ columns r ≡ s ⌝ }
     {
-        let ab = fold(s.a, s.b);
         let cd = fold(s.c, s.d);
-        Folded { ab, cd }
+        Folded { a: s.a, b: s.b, cd }
     }
 
     // The columns again.
@@ -36,8 +36,8 @@ impl Folded {
         ensures { λ r. ⌜ r ≡ columns self ⌝ }
     {
         Words {
-            a: (self.ab % 0x100000000) as u32,
-            b: (self.ab >> 32) as u32,
+            a: self.a,
+            b: self.b,
             c: (self.cd % 0x100000000) as u32,
             d: (self.cd >> 32) as u32,
         }
@@ -50,23 +50,26 @@ impl Folded {
         Folded::of_words(Words::start(w, x))
     }
 
-    // A round but the last. The key comes after the look-ups, two columns at a time.
+    // A round but the last. Of the key the first two words come first and the last two last, folded: while they are exclusive-ored in
+    // as one word, the compiler keeps the two columns together.
     pub fn round(self, m: &[u32; 1024], w: &[u8; 176], r: usize) -> Folded
         requires { ⌜ IsTTables (now m) ⌝ }
         requires { ⌜ r < 11 ⌝ }
         ensures { λ q. ⌜ stateOf (columns q) ≡ aesRound (now (w .entry)) r (stateOf (columns self)) ⌝ }
     {
         let s = self.words();
-        let mixed = Words::none()
+        let k = Words::round_key(w, r);
+        let mixed = Words::two(k.a, k.b)
             .spread(m, s.a)
             .spread(m, s.b)
             .spread(m, s.c)
             .spread(m, s.d);
-        let made = Folded::of_words(mixed);
-        let key = Folded::of_words(Words::round_key(w, r));
+        let made = fold(mixed.c, mixed.d);
+        let key = fold(k.c, k.d);
         Folded {
-            ab: made.ab ^ key.ab,
-            cd: made.cd ^ key.cd,
+            a: mixed.a,
+            b: mixed.b,
+            cd: made ^ key,
         }
     }
 }

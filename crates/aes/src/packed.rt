@@ -112,16 +112,11 @@ impl Words {
         Words { a, b, c, d }
     }
 
-    // No column yet: what columns are spread into.
-    pub fn none() -> Words
-        ensures { λ r. ⌜ r ≡ record { a = 0; b = 0; c = 0; d = 0 } ⌝ }
+    // Two columns, and nothing yet in the other two.
+    pub fn two(a: u32, b: u32) -> Words
+        ensures { λ r. ⌜ r ≡ record { a = a; b = b; c = 0; d = 0 } ⌝ }
     {
-        Words {
-            a: 0,
-            b: 0,
-            c: 0,
-            d: 0,
-        }
+        Words { a, b, c: 0, d: 0 }
     }
 
     // The key of round r: four words of the schedule.
@@ -153,13 +148,13 @@ impl Words {
 
     // What a column x of the state before gives to the four columns after SubBytes, ShiftRows and MixColumns, exclusive-ored in: its
     // row 0 goes to its own column, which is the first here, row 1 to the one before, and so on around. Then the next column comes
-    // first: after four columns they stand in their order again.
+    // first: after four columns they stand in their order again. The order of the look-ups is the one that the compiler makes the most of.
     pub fn spread(self, m: &[u32; 1024], x: u32) -> Words
         ensures { λ q. ⌜ Spread (now (m .entry)) self x q ⌝ }
     {
+        let c = self.c ^ m[512 + ((x >> 16) % 256) as usize];
         let a = self.a ^ m[(x % 256) as usize];
         let d = self.d ^ m[256 + ((x >> 8) % 256) as usize];
-        let c = self.c ^ m[512 + ((x >> 16) % 256) as usize];
         let b = self.b ^ m[768 + ((x >> 24) % 256) as usize];
         Words {
             a: b,
