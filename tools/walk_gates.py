@@ -42,7 +42,7 @@ PASSES = [
          given='G.asks-0 n m gs (now xi) (now xm) (now xo) n-fits m-fits (suc left) s d (f .0) at-pass',
          says='TryLeads (now xi) (now xm) s (g-at s) r'),
     dict(call='check_record', as_='check', before=[], after=['tokens', 'material'], buffer=True,
-         asks='Checks (now xi) (now xm) (s .k) (s .z) (s .rows) (s .here .at + charge (kindOf (g-at s .code)) * (4 + 16 * s .rows))',
+         asks='Checks (now xi) (now xm) (s .k) (s .z) (s .stride) (s .here .at + charge (kindOf (g-at s .code)) * s .stride)',
          given='G.asks-1 n m gs (now xi) (now xm) (now xo) n-fits m-fits (suc left) s d (f .0) (gate-fits (g-at s) p) at-pass',
          says='CheckLeads (now xi) (now xm) s (g-at s) d r (last-1 zs)'),
     dict(call='write_next', as_='write', before=['t', 'w'], after=['material'], buffer=True,

@@ -68,7 +68,7 @@ module _ (c seed : List ℕ) (scheme : ℕ) (f z o f′ z′ o′ : List ℕ) (m
   unfolding chainMaterial
   file-is v =
       let γ = garblingOf c seed scheme in
-      let long = material-length γ (garbled .scheme-low) (garbled .scheme-high) in
+      let long = material-length γ in
       rw (ran .material-left, was-fine) (whole-front (material γ) f _ (rw (outputs-many c) at long))
 
   pub zeros-are : (v : List ℕ) → z′ ≡ over (chainZeros c seed scheme v) z
@@ -99,8 +99,7 @@ module _ (c seed : List ℕ) (scheme : ℕ) (f z o f′ z′ o′ : List ℕ) (m
     pub allowed : Allowed c seed scheme v
     allowed = record {
       accepted = garbled .accepted;
-      scheme-low = garbled .scheme-low;
-      scheme-high = garbled .scheme-high;
+      known = garbled .known;
       seed-bytes = garbled .seed-length;
       one-each = encode-start .values;
       bits = encode-start .bits;

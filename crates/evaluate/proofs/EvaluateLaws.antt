@@ -44,8 +44,7 @@ module _ (c ts s o : List ℕ) (r : Ready) (is-r : readyOf r ≡ evaluateReady c
         accepted = both .0;
         is-n = is-n c z known;
         is-q = is-q c z known;
-        scheme-low = holds .formed .scheme-low;
-        scheme-high = holds .formed .scheme-high;
+        known = holds .formed .known;
         whole = holds .formed .whole;
         room = rw (is-n c z known, is-q c z known) (holds .roomy);
       };

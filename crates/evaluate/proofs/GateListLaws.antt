@@ -22,12 +22,13 @@ use Rattle.model.specs.Bytes.{be16, over}
 use Rattle.model.specs.Circuit.{circuitOf, inputs, gates, gateAt, markAt, kindOf, charge, sizesHold}
 use Rattle.aes.specs.Tables.{IsTTables}
 use Rattle.model.specs.Aes.{keyExpansion, fixedKey}
+use Rattle.model.specs.Scheme.{recordLength}
 use Rattle.model.specs.Garbling.{schemeOf}
-use Rattle.model.specs.Material.{rowsStored}
-use Rattle.model.specs.Refusals.{fine, refused, refuse, _then_, firstOf, numberOf, placeOf, verdictOf, headVerdict, gateVerdict, recordVerdict, gatesVerdict, circuitVerdict, tokensVerdict, fileVerdict, materialVerdict, roomVerdict, rowRecordAt}
+use Rattle.model.specs.Refusals.{fine, refused, refuse, _then_, firstOf, numberOf, placeOf, verdictOf, headVerdict, gateVerdict, recordVerdict, gatesVerdict, circuitVerdict, tokensVerdict, fileVerdict, materialVerdict, lastVerdict, roomVerdict, rowRecordAt}
 use Rattle.model.specs.Operations.{sizesOf, ranOf, evaluatedOf, evaluateVerdict, EvaluateIs}
 use Rattle.model.proofs.Lists.{tabulate-snoc}
 use Rattle.model.proofs.Circuits.{charge-le, charges-snoc}
+use Rattle.model.proofs.Places.{record-high, record-low}
 use Rattle.model.proofs.Verdicts.{then-fine, refuse-fine, and-both, Given, yes-given, Turned, no-turned, first-next, first-found}
 use Rattle.circuit.specs.declared.gates.GateRead.{GateRead}
 use Rattle.circuit.specs.declared.values.Ready.{Ready}
@@ -35,33 +36,24 @@ use Rattle.circuit.specs.Answers as Read
 use Rattle.circuit.specs.Answers.{gateOf}
 use Rattle.material.specs.declared.records.Cursor.{Cursor}
 use Rattle.material.specs.declared.records.Step.{Step}
-use Rattle.material.specs.Answers.{Accepted, Filed, sizesVerdict, stepOf, gateAnswer, recordsVerdict, lastAt}
+use Rattle.material.specs.Answers.{Accepted, Filed, stepOf, gateAnswer, recordsVerdict}
 use Rattle.material.proofs.SizeLaws.{limits, is-n, is-m, is-q}
-use Rattle.material.proofs.RowLaws.{row-first}
+use Rattle.material.proofs.RowLaws.{row-first, row-end}
 use Rattle.material.proofs.RecordLaws.{Reading, at-turn, passAnswer, gate-passed, turn-next, turn-fault, one-charged, answer-free, answer-wrong, answer-right}
 use Rattle.material.proofs.MaterialLaws.{by-record, by-last, material-file, filed}
 use Rattle.evaluate.specs.declared.list.Walk.{Walk}
 use Rattle.evaluate.specs.Answers.{restVerdict}
-use Rattle.evaluate.specs.Gate.{RecordRoom}
+use Rattle.scheme.specs.Rows.{RecordRoom}
 use Rattle.evaluate.specs.Walk.{TokenIs, FreeTokenIs, WiresStart, Walking}
 use Rattle.evaluate.specs.GateList.{Ended, GoesTo, Begun, Onward, GateIs, RowsRight, Guessed, Tried, Checked, Written, Stands, TriedLeads, TryLeads, CheckedLeads, CheckLeads, WriteLeads, Few, RowPassed, Tries, Checks, Writes}
 use Rattle.evaluate.proofs.ReadyLaws.{evaluate-verdict}
-use Rattle.evaluate.proofs.WalkLaws.{few-made, past-is, charged-room, charge-cases, walk-start, walk-turn, walk-end, wires-walk, wires-done}
+use Rattle.evaluate.proofs.WalkLaws.{few-made, charged-room, charge-cases, walk-start, walk-turn, walk-end, wires-walk, wires-done}
 use Rattle.evaluate.proofs.EvaluateLaws.{evaluate-start, evaluate-done}
 
--- ---- scheme_rows, of the rows as they were counted
+-- ---- stride_of, of the bytes as they were counted
 
-pub rows-none : (s : List ℕ) (rows : ℕ) → length s ≤ 2 → rows ≡ rowsStored 0 → rows ≡ rowsStored (getD s 2 0)
-rows-none s rows h e = e ∙ ap rowsStored (sym (List·getD-eq-default s 0 h))
-
--- a charged gate has at most four
-rows-few : (scheme : ℕ) → rowsStored scheme ≤ 4
-unfolding rowsStored
-rows-few zero = omega arith
-rows-few (suc zero) = omega arith
-rows-few (suc (suc zero)) = omega arith
-rows-few (suc (suc (suc zero))) = omega arith
-rows-few (suc (suc (suc (suc k)))) = omega arith
+pub stride-none : (s : List ℕ) (stride : ℕ) → length s ≤ 2 → stride ≡ recordLength (schemeOf 0) → stride ≡ recordLength (schemeOf (getD s 2 0))
+stride-none s stride h e = e ∙ ap (λ (x : ℕ). recordLength (schemeOf x)) (sym (List·getD-eq-default s 0 h))
 
 -- ---- begin
 
@@ -81,10 +73,10 @@ module _ (n m q : ℕ) (s : List ℕ) (r : Walk) where
     pub begun-limits : not b ≡ true → Ended (Evaluated.Refused Limits) r → Begun n m q s r
     begun-limits h = limited (rw (le-leb _ _ few, ← is-b, not-true b h))
 
-    pub begun-first : not b ≡ false → (here : Cursor) → here .at ≡ 9 → (rows : ℕ) → rows ≡ rowsStored (getD s 2 0)
-        → GoesTo 0 0 (record { n = n; m = m; q = q; p = 0 }) here rows 0 r → Begun n m q s r
-    begun-first h here at rows is-rows g = record {
-      goes = λ _. let e : here ≡ record { at = 9 } = ap (λ (x : ℕ). record { at = x }) at in rw (← e, ← is-rows) g;
+    pub begun-first : not b ≡ false → (here : Cursor) → here .at ≡ 9 → (stride : ℕ) → stride ≡ recordLength (schemeOf (getD s 2 0))
+        → GoesTo 0 0 (record { n = n; m = m; q = q; p = 0 }) here stride 0 r → Begun n m q s r
+    begun-first h here at stride is-stride g = record {
+      goes = λ _. let e : here ≡ record { at = 9 } = ap (λ (x : ℕ). record { at = x }) at in rw (← e, ← is-stride) g;
       stops = λ e. neither e (rw (le-leb _ _ few, ← is-b, not-false b h));
     }
 
@@ -98,7 +90,7 @@ module _ (c ts s o : List ℕ) (left : ℕ) (w : Walk) (d : List ℕ) where
   ends e is = record {
     passes = omega (arith, e);
     more = λ h. absurd (omega (arith, e));
-    rows = λ h. absurd (omega (arith, e));
+    strides = λ h. absurd (omega (arith, e));
     pass-0 = λ h. absurd (omega (arith, e));
     pass-1 = λ h. absurd (omega (arith, e));
     pass-2 = λ h. absurd (omega (arith, e));
@@ -110,34 +102,34 @@ module _ (c ts s o : List ℕ) (left : ℕ) (w : Walk) (d : List ℕ) where
   refuses f e u v = ends (e .over) (record { answered = rw (e .answered, v); left = rw v u })
 
   -- it goes on, in one of the passes
-  module _ (k : ℕ) (z : Sizes) (here : Cursor) (rows : ℕ) (is-rows : rows ≡ rowsStored (getD s 2 0)) (more : k < gates c) where
-    pub goes-0 : GoesTo 0 k z here rows 0 w → Tried c s o left k z (here .at) d → Stands c ts s o left w d
+  module _ (k : ℕ) (z : Sizes) (here : Cursor) (stride : ℕ) (is-stride : stride ≡ recordLength (schemeOf (getD s 2 0))) (more : k < gates c) where
+    pub goes-0 : GoesTo 0 k z here stride 0 w → Tried c s o left k z (here .at) d → Stands c ts s o left w d
     goes-0 g t = record {
       passes = omega (arith, g .is-pass);
       more = λ _. rw (g .is-k) more;
-      rows = λ _. g .is-rows ∙ is-rows;
+      strides = λ _. g .is-stride ∙ is-stride;
       pass-0 = λ _. rw (g .is-k, g .is-z, g .is-here) t;
       pass-1 = λ e. absurd (omega (arith, g .is-pass));
       pass-2 = λ e. absurd (omega (arith, g .is-pass));
       ended = λ e. absurd (omega (arith, g .is-pass));
     }
 
-    goes-1 : GoesTo 1 k z here rows 0 w → Checked c ts s o left k z (here .at) d → Stands c ts s o left w d
+    goes-1 : GoesTo 1 k z here stride 0 w → Checked c ts s o left k z (here .at) d → Stands c ts s o left w d
     goes-1 g t = record {
       passes = omega (arith, g .is-pass);
       more = λ _. rw (g .is-k) more;
-      rows = λ _. g .is-rows ∙ is-rows;
+      strides = λ _. g .is-stride ∙ is-stride;
       pass-0 = λ e. absurd (omega (arith, g .is-pass));
       pass-1 = λ _. rw (g .is-k, g .is-z, g .is-here) t;
       pass-2 = λ e. absurd (omega (arith, g .is-pass));
       ended = λ e. absurd (omega (arith, g .is-pass));
     }
 
-    goes-2 : (calls : ℕ) → GoesTo 2 k z here rows calls w → Written c ts s o left k z (here .at) calls d → Stands c ts s o left w d
+    goes-2 : (calls : ℕ) → GoesTo 2 k z here stride calls w → Written c ts s o left k z (here .at) calls d → Stands c ts s o left w d
     goes-2 calls g t = record {
       passes = omega (arith, g .is-pass);
       more = λ _. rw (g .is-k) more;
-      rows = λ _. g .is-rows ∙ is-rows;
+      strides = λ _. g .is-stride ∙ is-stride;
       pass-0 = λ e. absurd (omega (arith, g .is-pass));
       pass-1 = λ e. absurd (omega (arith, g .is-pass));
       pass-2 = λ _. rw (g .is-k, g .is-z, g .is-here, g .is-calls) t;
@@ -207,8 +199,8 @@ module _ (c : List ℕ) (z : Sizes) (s : List ℕ) (known : Filed c z s) (k : �
 
 -- ---- row_passed
 
-module _ (s : List ℕ) (at rows x due : ℕ) where
-  pub passed-free : x ≡ 0 → RowPassed s at rows x due at
+module _ (s : List ℕ) (at stride x due : ℕ) where
+  pub passed-free : x ≡ 0 → RowPassed s at stride x due at
   passed-free e = record {
     free = λ _. refl;
     right = λ n. absurd (n e);
@@ -220,7 +212,7 @@ module _ (s : List ℕ) (at rows x due : ℕ) where
 
   module _ (n : x ≡ 0 → ⊥) where
     -- no record is there
-    passed-not : (at + 4 ≤ length s → rowRecordAt s at due ≡ false) → RowPassed s at rows x due 0
+    passed-not : (at + 4 ≤ length s → rowRecordAt s at due ≡ false) → RowPassed s at stride x due 0
     passed-not h = record {
       free = λ e. absurd (n e);
       right = λ _ l e. neither (h l) e;
@@ -230,15 +222,15 @@ module _ (s : List ℕ) (at rows x due : ℕ) where
       near = omega arith;
     }
 
-    pub passed-short : length s < at + 4 → RowPassed s at rows x due 0
+    pub passed-short : length s < at + 4 → RowPassed s at stride x due 0
     passed-short h = passed-not (λ l. absurd (omega arith))
 
     -- whether its record is there, as it was read
     module _ (b : Bool) (is-b : b ≡ rowRecordAt s at due) where
-      pub passed-wrong : b ≡ false → RowPassed s at rows x due 0
+      pub passed-wrong : b ≡ false → RowPassed s at stride x due 0
       passed-wrong e = passed-not (λ _. sym is-b ∙ e)
 
-      pub passed-right : at + 4 ≤ length s → b ≡ true → (there : ℕ) → there ≡ at + 4 + 16 * rows → RowPassed s at rows x due there
+      pub passed-right : at + 4 ≤ length s → b ≡ true → (there : ℕ) → there ≡ at + stride → RowPassed s at stride x due there
       passed-right l e there is-there = record {
         free = λ f. absurd (n f);
         right = λ _ _ _. is-there;
@@ -253,9 +245,9 @@ pub ruleset passed-cases = (passed-free, passed-short, passed-wrong, passed-righ
 -- ---- where the next row record is due, past that of gate k
 
 -- place 0 has another mark than a row record
-header-mark : (c s : List ℕ) → fileVerdict (circuitOf c) s ≡ fine → markAt s 0 0x47 0x48 ≡ true
+header-mark : (z : Sizes) (s : List ℕ) → fileVerdict z s ≡ fine → markAt s 0 0x47 0x48 ≡ true
 unfolding fileVerdict
-header-mark c s e =
+header-mark z s e =
     let a = then-fine _ _ e in
     let b = then-fine _ _ (a .0) in
     let d = then-fine _ _ (b .0) in
@@ -280,11 +272,11 @@ module _ (c s : List ℕ) (k : ℕ) (h : k < gates c) (g : Gate) (is-g : g ≡ g
 
   module _ (charged : charge (kindOf (g .code)) ≡ 0 → ⊥) (due : ℕ) (is-due : due ≡ inputs c + k + 1) (there : Cursor)
       (found : (there .at ≡ 0 → ⊥) → rowRecordAt s (here .at) due ≡ true)
-      (gone : (there .at ≡ 0 → ⊥) → there .at ≡ here .at + 4 + 16 * rowsStored (getD s 2 0)) where
+      (gone : (there .at ≡ 0 → ⊥) → there .at ≡ here .at + recordLength (schemeOf (getD s 2 0))) where
     module _ (n : there .at ≡ 0 → ⊥) (known : Filed c (sizesOf c) s) where
       -- it was right so far
       some : here .at ≡ 0 → ⊥
-      some z = no-row s due (header-mark c s (known .filed)) (rw z at (found n))
+      some z = no-row s due (header-mark (sizesOf c) s (known .filed)) (rw z at (found n))
 
       so-far : RowsRight c s k (here .at)
       so-far = before .rows some known
@@ -315,12 +307,12 @@ all-tried c s o d left k z at t h =
       sizes = sizes-are z _ _ _ _ (t .is-n) (t .is-m) (t .is-q) (rw e at (t .counted));
     }
 
-module _ (ts s : List ℕ) (k : ℕ) (z : Sizes) (here there : Cursor) (rows : ℕ) (is-rows : rows ≡ rowsStored (getD s 2 0)) (r : Walk) where
-  pub tried-next : k + 1 < z .q → GoesTo 0 (k + 1) z there rows 0 r → TriedLeads ts s k z (here .at) (there .at) r
+module _ (ts s : List ℕ) (k : ℕ) (z : Sizes) (here there : Cursor) (stride : ℕ) (is-stride : stride ≡ recordLength (schemeOf (getD s 2 0))) (r : Walk) where
+  pub tried-next : k + 1 < z .q → GoesTo 0 (k + 1) z there stride 0 r → TriedLeads ts s k z (here .at) (there .at) r
   tried-next h g = record {
     kept = λ _. ap (λ (x : Cursor). x .at) (g .is-here);
     starts = λ _ e. absurd (omega (arith, g .is-pass));
-    leads = λ c o d left _ t. goes-0 c ts s o left r d (k + 1) z there rows is-rows (omega (arith, t .is-q)) g t;
+    leads = λ c o d left _ t. goes-0 c ts s o left r d (k + 1) z there stride is-stride (omega (arith, t .is-q)) g t;
   }
 
   module _ (last : z .q ≤ k + 1) where
@@ -335,7 +327,7 @@ module _ (ts s : List ℕ) (k : ℕ) (z : Sizes) (here there : Cursor) (rows : �
     }
 
     -- the header and the length of the material as they were tried
-    module _ (l : length ts ≡ 16 * z .n) (u : Ran) (is-u : ranOf u ≡ sizesVerdict z s) where
+    module _ (l : length ts ≡ 16 * z .n) (u : Ran) (is-u : ranOf u ≡ fileVerdict z s) where
       pub tried-file : (f : Refusal) → u ≡ Ran.Refused f → Ended (Evaluated.Refused f) r → TriedLeads ts s k z (here .at) (there .at) r
       tried-file f i e = record {
         kept = λ p. absurd (omega (arith, e .over));
@@ -348,14 +340,14 @@ module _ (ts s : List ℕ) (k : ℕ) (z : Sizes) (here there : Cursor) (rows : �
 
       module _ (i : u ≡ Ran.Done) where
         -- to a gate whose row record is due at an index, those before it right
-        to-record : (j : ℕ) (at : Cursor) → GoesTo 1 j z at rows 0 r → j ≤ k → ((here .at ≡ 0 → ⊥) → j ≡ k) → ((c : List ℕ) → Guessed c s k (here .at) → Filed c z s → RowsRight c s j (at .at))
+        to-record : (j : ℕ) (at : Cursor) → GoesTo 1 j z at stride 0 r → j ≤ k → ((here .at ≡ 0 → ⊥) → j ≡ k) → ((c : List ℕ) → Guessed c s k (here .at) → Filed c z s → RowsRight c s j (at .at))
             → TriedLeads ts s k z (here .at) (there .at) r
         to-record j at g low start right = record {
           kept = λ p. absurd (omega (arith, g .is-pass));
           starts = λ n _. g .is-k ∙ start n;
           leads = λ c o d left before t.
               let known = filed c z s (all-tried c s o d left (k + 1) z (there .at) t last) u is-u i in
-              goes-1 c ts s o left r d j z at rows is-rows (omega (arith, t .within)) g
+              goes-1 c ts s o left r d j z at stride is-stride (omega (arith, t .within)) g
               (record {
                 known = known;
                 tokens = rw (t .is-n) at l;
@@ -367,11 +359,11 @@ module _ (ts s : List ℕ) (k : ℕ) (z : Sizes) (here there : Cursor) (rows : �
         }
 
         -- the first, or the last
-        pub tried-first : here .at ≡ 0 → (first : Cursor) → first .at ≡ 9 → GoesTo 1 0 z first rows 0 r → TriedLeads ts s k z (here .at) (there .at) r
+        pub tried-first : here .at ≡ 0 → (first : Cursor) → first .at ≡ 9 → GoesTo 1 0 z first stride 0 r → TriedLeads ts s k z (here .at) (there .at) r
         tried-first none first at g =
             to-record 0 first g (omega arith) (λ n. absurd (n none)) (λ c _ _. (record { no-fault = unfold firstOf in refl; placed = at ∙ sym (row-first c s) }))
 
-        pub tried-last : (here .at ≡ 0 → ⊥) → GoesTo 1 k z here rows 0 r → TriedLeads ts s k z (here .at) (there .at) r
+        pub tried-last : (here .at ≡ 0 → ⊥) → GoesTo 1 k z here stride 0 r → TriedLeads ts s k z (here .at) (there .at) r
         tried-last n g = to-record k here g (omega arith) (λ _. refl) (λ c before known. before .rows n (rw (known .circuit .sizes) at known))
 
 pub ruleset tried-cases = (tried-next, tried-tokens, tried-file, tried-first, tried-last)
@@ -396,8 +388,11 @@ module _ (ts s : List ℕ) (w : Walk) (g : Gate) (found : GateRead) (is-found : 
   pub try-counts : Tries s w → (x : ℕ) → found ≡ GateRead.Fine x → Fits w64 (w .z .p + x)
   try-counts asked x e = let few = asked .few in omega (arith, at-most-one x e, few .charged-few, few .more, few .wires)
 
-  pub try-fits : Tries s w → w .here .at + 4 + 16 * w .rows < 18446744073709551616
-  try-fits asked = omega (arith, asked .near, asked .few .more, asked .few .wires, asked .is-rows, rows-few (getD s 2 0))
+  pub try-low : Tries s w → 4 ≤ w .stride
+  try-low asked = omega (arith, asked .is-stride, record-low (getD s 2 0))
+
+  pub try-fits : Tries s w → w .here .at + w .stride < 18446744073709551616
+  try-fits asked = omega (arith, asked .near, asked .few .more, asked .few .wires, asked .is-stride, record-high (getD s 2 0))
 
   pub try-few : Tries s w → (x : ℕ) → found ≡ GateRead.Fine x → Few (w .k) (counted x) (w .k + 1)
   try-few asked x e = record {
@@ -408,8 +403,8 @@ module _ (ts s : List ℕ) (w : Walk) (g : Gate) (found : GateRead) (is-found : 
   }
 
   -- where the next row record is due then
-  module _ (x : ℕ) (e : found ≡ GateRead.Fine x) (there : Cursor) (passed : RowPassed s (w .here .at) (w .rows) x (w .z .n + w .k + 1) (there .at))
-      (is-rows : w .rows ≡ rowsStored (getD s 2 0)) where
+  module _ (x : ℕ) (e : found ≡ GateRead.Fine x) (there : Cursor) (passed : RowPassed s (w .here .at) (w .stride) x (w .z .n + w .k + 1) (there .at))
+      (is-stride : w .stride ≡ recordLength (schemeOf (getD s 2 0))) where
     guess : (c : List ℕ) → w .z .n ≡ inputs c → w .k < gates c → GateIs c (w .k) g → Guessed c s (w .k) (w .here .at) → Guessed c s (w .k + 1) (there .at)
     guess c is-n h is before = by-charge x refl
       where
@@ -421,10 +416,10 @@ module _ (ts s : List ℕ) (w : Walk) (g : Gate) (found : GateRead) (is-found : 
         by-charge (suc y) f =
             let some : x ≡ 0 → ⊥ = λ z. absurd (omega arith) in
             guess-charged c s (w .k) h g (is .is-g) (w .here) before (λ z. some (is-x ∙ z)) (w .z .n + w .k + 1) (rw is-n) there (passed .found some)
-            (λ z. rw is-rows at (passed .gone some z))
+            (λ z. rw is-stride at (passed .gone some z))
 
   -- without a fault, it adds its charge
-  pub try-fine : Tries s w → (x : ℕ) → found ≡ GateRead.Fine x → (there : Cursor) → RowPassed s (w .here .at) (w .rows) x (w .z .n + w .k + 1) (there .at) → (r : Walk)
+  pub try-fine : Tries s w → (x : ℕ) → found ≡ GateRead.Fine x → (there : Cursor) → RowPassed s (w .here .at) (w .stride) x (w .z .n + w .k + 1) (there .at) → (r : Walk)
       → TriedLeads ts s (w .k) (counted x) (w .here .at) (there .at) r → TryLeads ts s w g r
   try-fine asked x e there passed r next = record {
     looked = λ p. rw (next .kept p, ← fine-gate x e .is-result) passed;
@@ -440,8 +435,8 @@ module _ (ts s : List ℕ) (w : Walk) (g : Gate) (found : GateRead) (is-found : 
           within = omega arith;
           no-fault = first-next _ (w .k) (t .no-fault) (at-record c is (t .is-n) ∙ v .is-fine);
           counted = rw (add-one, tabulate-snoc (w .k) (gateAt c), charges-snoc, ← is .is-g, ← t .counted, ← v .is-result);
-          guessed = guess x e there passed (asked .is-rows) c (t .is-n) h is (t .guessed);
-          near = omega (arith, t .near, passed .near, asked .is-rows, rows-few (getD s 2 0));
+          guessed = guess x e there passed (asked .is-stride) c (t .is-n) h is (t .guessed);
+          near = omega (arith, t .near, passed .near, asked .is-stride, record-high (getD s 2 0));
           untouched = t .untouched;
           turns = omega (arith, t .turns);
         });
@@ -461,24 +456,24 @@ module _ (ts s : List ℕ) (w : Walk) (g : Gate) (found : GateRead) (is-found : 
           let k : recordVerdict c (inputs c) (w .k) ≡ refused (v .number) (v .place) = at-record c is (t .is-n) ∙ v .is-v in
           by-gate c ts s (length o) (w .k) (v .number) (v .place) (t .head) (t .no-fault) h k ∙ sym (v .is-w)
 
-pub ruleset try-cases = (try-counts, try-fits, try-few, try-fine, try-fault)
+pub ruleset try-cases = (try-counts, try-low, try-fits, try-few, try-fine, try-fault)
 
 -- ---- record_checked
 
-module _ (ts s : List ℕ) (k : ℕ) (z : Sizes) (there : Cursor) (rows : ℕ) (asked : Checks ts s k z rows (there .at)) (d : List ℕ) (r : Walk) where
-  pub checked-next : k + 1 < z .q → GoesTo 1 (k + 1) z there rows 0 r → CheckedLeads ts s k z (there .at) d r d
+module _ (ts s : List ℕ) (k : ℕ) (z : Sizes) (there : Cursor) (stride : ℕ) (asked : Checks ts s k z stride (there .at)) (d : List ℕ) (r : Walk) where
+  pub checked-next : k + 1 < z .q → GoesTo 1 (k + 1) z there stride 0 r → CheckedLeads ts s k z (there .at) d r d
   checked-next h g = record {
     on = omega (arith, g .is-pass);
-    leads = λ c o left t. goes-1 c ts s o left r d (k + 1) z there rows (asked .is-rows) (omega (arith, is-q c z (t .known .circuit))) g t;
+    leads = λ c o left t. goes-1 c ts s o left r d (k + 1) z there stride (asked .is-stride) (omega (arith, is-q c z (t .known .circuit))) g t;
   }
 
   -- all row records were checked
-  module _ (last : z .q ≤ k + 1) (u : Ran) (is-u : ranOf u ≡ lastAt s (there .at) (z .m)) where
+  module _ (last : z .q ≤ k + 1) (u : Ran) (is-u : ranOf u ≡ lastVerdict s (there .at) (z .m)) where
     -- and the last record: that is the material's verdict
     all-checked : (c o : List ℕ) (left : ℕ) → Checked c ts s o left (k + 1) z (there .at) d → ranOf u ≡ materialVerdict (circuitOf c) s
     all-checked c o left t =
         let e : k + 1 ≡ gates c = omega (arith, t .within, is-q c z (t .known .circuit)) in
-        by-last c z s (t .known) (rw e at (t .rows .no-fault)) (ranOf u) (there .at) (rw e at (t .rows .placed)) is-u
+        by-last c z s (t .known) (rw e at (t .rows .no-fault)) (ranOf u) (there .at) (rw (e, row-end c s) at (t .rows .placed)) is-u
 
     pub checked-last : (f : Refusal) → u ≡ Ran.Refused f → Ended (Evaluated.Refused f) r → CheckedLeads ts s k z (there .at) d r d
     checked-last f i e = record {
@@ -499,7 +494,7 @@ module _ (ts s : List ℕ) (k : ℕ) (z : Sizes) (there : Cursor) (rows : ℕ) (
             refuses c ts s o left r d (Room (16 * (z .n + z .q))) e (t .untouched) (rw (is-n c z k, is-q c z k) v);
       }
 
-      pub checked-all : 16 * (z .n + z .q) ≤ length d → (d′ : List ℕ) → d′ ≡ over ts d → (here : Cursor) → here .at ≡ 9 → GoesTo 2 0 z here rows 0 r
+      pub checked-all : 16 * (z .n + z .q) ≤ length d → (d′ : List ℕ) → d′ ≡ over ts d → (here : Cursor) → here .at ≡ 9 → GoesTo 2 0 z here stride 0 r
           → CheckedLeads ts s k z (there .at) d r d′
       checked-all h d′ is-d here at g = record {
         on = omega (arith, g .is-pass);
@@ -508,7 +503,7 @@ module _ (ts s : List ℕ) (k : ℕ) (z : Sizes) (there : Cursor) (rows : ℕ) (
             let fit = verdict-fine c ts s (length o) (k .accepted) (t .tokens) (rw i at (all-checked c o left t))
             (rw (← is-n c z k, ← is-q c z k, ← t .untouched) h) in
             let sizes = limits c z k .sizes in
-            goes-2 c ts s o left r d′ 0 z here rows (asked .is-rows) (omega (arith, sizes .m-low, sizes .m-high)) 0 g
+            goes-2 c ts s o left r d′ 0 z here stride (asked .is-stride) (omega (arith, sizes .m-low, sizes .m-high)) 0 g
             (record {
               sizes = k .sizes;
               fit = fit;
@@ -552,9 +547,9 @@ module _ (ts s : List ℕ) (w : Walk) (g : Gate) where
       free : charge (kindOf (g .code)) ≡ 0
       free = sym is-x ∙ e
 
-      pub free-asks : Checks ts s (w .k) (w .z) (w .rows) (w .here .at + charge (kindOf (g .code)) * (4 + 16 * w .rows))
-          → Checks ts s (w .k) (w .z) (w .rows) (w .here .at)
-      free-asks a = record { few = a .few; is-rows = a .is-rows; tokens = a .tokens; room = omega (arith, rw free at (a .room)) }
+      pub free-asks : Checks ts s (w .k) (w .z) (w .stride) (w .here .at + charge (kindOf (g .code)) * w .stride)
+          → Checks ts s (w .k) (w .z) (w .stride) (w .here .at)
+      free-asks a = record { few = a .few; is-stride = a .is-stride; tokens = a .tokens; room = omega (arith, rw free at (a .room)) }
 
       pub free-passed : (d : List ℕ) (r : Walk) (d′ : List ℕ) → CheckedLeads ts s (w .k) (w .z) (w .here .at) d r d′ → CheckLeads ts s w g d r d′
       free-passed = goes-past (Step.Next (w .here)) (answer-free s (w .here .at) (g .code) (w .z .n + w .k + 1) free) (w .here) refl
@@ -564,15 +559,15 @@ module _ (ts s : List ℕ) (w : Walk) (g : Gate) where
       charged : charge (kindOf (g .code)) ≡ 0 → ⊥
       charged e = n (is-x ∙ e)
 
-      whole : Checks ts s (w .k) (w .z) (w .rows) (w .here .at + charge (kindOf (g .code)) * (4 + 16 * w .rows))
-          → w .here .at + 4 + 16 * w .rows + 2 + w .z .m ≤ length s
+      whole : Checks ts s (w .k) (w .z) (w .stride) (w .here .at + charge (kindOf (g .code)) * w .stride)
+          → w .here .at + w .stride + 2 + w .z .m ≤ length s
       whole a = omega (arith, rw (one-charged (kindOf (g .code)) charged .1) at (a .room))
 
-      pub charged-asks : Checks ts s (w .k) (w .z) (w .rows) (w .here .at + charge (kindOf (g .code)) * (4 + 16 * w .rows)) → w .here .at + 4 ≤ length s
-      charged-asks a = omega (arith, whole a)
+      pub charged-asks : Checks ts s (w .k) (w .z) (w .stride) (w .here .at + charge (kindOf (g .code)) * w .stride) → w .here .at + 4 ≤ length s
+      charged-asks a = omega (arith, whole a, a .is-stride, record-low (getD s 2 0))
 
-      pub charged-fits : Checks ts s (w .k) (w .z) (w .rows) (w .here .at + charge (kindOf (g .code)) * (4 + 16 * w .rows)) → length s < 2 ^ 64
-          → w .here .at + 4 + 16 * w .rows < 18446744073709551616
+      pub charged-fits : Checks ts s (w .k) (w .z) (w .stride) (w .here .at + charge (kindOf (g .code)) * w .stride) → length s < 2 ^ 64
+          → w .here .at + w .stride < 18446744073709551616
       charged-fits a l = omega (arith, whole a)
 
       -- whether its record is there, as it was read
@@ -588,30 +583,30 @@ module _ (ts s : List ℕ) (w : Walk) (g : Gate) where
               c o d left h is t (RowRecord due) refl);
         }
 
-        module _ (e : not b ≡ false) (there : Cursor) (is-there : there .at ≡ w .here .at + 4 + 16 * w .rows)
-            (a : Checks ts s (w .k) (w .z) (w .rows) (w .here .at + charge (kindOf (g .code)) * (4 + 16 * w .rows))) where
-          pub charged-past : Checks ts s (w .k) (w .z) (w .rows) (there .at)
-          charged-past = record { few = a .few; is-rows = a .is-rows; tokens = a .tokens; room = rw is-there (whole a) }
+        module _ (e : not b ≡ false) (there : Cursor) (is-there : there .at ≡ w .here .at + w .stride)
+            (a : Checks ts s (w .k) (w .z) (w .stride) (w .here .at + charge (kindOf (g .code)) * w .stride)) where
+          pub charged-past : Checks ts s (w .k) (w .z) (w .stride) (there .at)
+          charged-past = record { few = a .few; is-stride = a .is-stride; tokens = a .tokens; room = rw is-there (whole a) }
 
           pub charged-right : (d : List ℕ) (r : Walk) (d′ : List ℕ) → CheckedLeads ts s (w .k) (w .z) (there .at) d r d′ → CheckLeads ts s w g d r d′
           charged-right =
               goes-past (Step.Next there)
               (answer-right s (w .here .at) (g .code) (w .z .n + w .k + 1) charged (sym is-b ∙ not-false b e) (there .at)
-              (omega (arith, is-there, a .is-rows))) there refl
+              (omega (arith, is-there, a .is-stride))) there refl
 
 pub ruleset check-asks = (free-asks, charged-asks, charged-fits, charged-past)
 
 pub ruleset check-cases = (free-passed, charged-wrong, charged-right)
 
 -- ---- token_written
-module _ (k : ℕ) (z : Sizes) (there : Cursor) (rows calls : ℕ) (r : Walk) where
-  pub onward-more : k + 1 < z .q → GoesTo 2 (k + 1) z there rows calls r → Onward k z there rows calls r
+module _ (k : ℕ) (z : Sizes) (there : Cursor) (stride calls : ℕ) (r : Walk) where
+  pub onward-more : k + 1 < z .q → GoesTo 2 (k + 1) z there stride calls r → Onward k z there stride calls r
   onward-more h goes = record { goes = λ l. goes; stops = λ l. absurd (not-both l) }
     where
       not-both : z .q ≤ k + 1 → ⊥
       not-both l = omega arith
 
-  pub onward-last : z .q ≤ k + 1 → Ended (Evaluated.Done calls) r → Onward k z there rows calls r
+  pub onward-last : z .q ≤ k + 1 → Ended (Evaluated.Done calls) r → Onward k z there stride calls r
   onward-last h e = record { goes = λ l. absurd (not-both l); stops = λ l. e }
     where
       not-both : k + 1 < z .q → ⊥
@@ -621,7 +616,7 @@ pub ruleset onward-cases = (onward-more, onward-last)
 
 -- ---- write_next
 module _ (s : List ℕ) (w : Walk) (g : Gate) (d d′ : List ℕ) (there : Cursor) (made : ℕ)
-    (is : TokenIs (getD s 2 0) (w .z .n) (w .k) g s (w .here .at) d (there .at) made d′) (is-rows : w .rows ≡ rowsStored (getD s 2 0)) (r : Walk) where
+    (is : TokenIs (getD s 2 0) (w .z .n) (w .k) g s (w .here .at) d (there .at) made d′) (is-stride : w .stride ≡ recordLength (schemeOf (getD s 2 0))) (r : Walk) where
   -- one more token is written
   one-more : (c ts o : List ℕ) (left : ℕ) → w .k < gates c → GateIs c (w .k) g → Written c ts s o (suc left) (w .k) (w .z) (w .here .at) (w .calls) d
       → Walking c s (inputs c) (gates c) (over ts o) (w .k + 1) (there .at) (w .calls + made) d′
@@ -631,12 +626,12 @@ module _ (s : List ℕ) (w : Walk) (g : Gate) (d d′ : List ℕ) (there : Curso
       walk-turn c s _ _ (over ts o) (wires-walk c ts s _ _ o (wires c ts s o (w .z) known (t .fit)) (over ts o) refl) (w .k) (w .here .at) (w .calls) d (t .so-far) h
       (there .at) made d′ step
 
-  write-more : w .k + 1 < w .z .q → GoesTo 2 (w .k + 1) (w .z) there (w .rows) (w .calls + made) r → WriteLeads s w g d r d′
+  write-more : w .k + 1 < w .z .q → GoesTo 2 (w .k + 1) (w .z) there (w .stride) (w .calls + made) r → WriteLeads s w g d r d′
   write-more h goes = record {
     on = omega (arith, goes .is-pass);
     leads = λ c ts o left more gate t.
         let known = accepted-by c ts s o (w .z) (t .sizes) (t .fit) in
-        goes-2 c ts s o left r d′ (w .k + 1) (w .z) there (w .rows) is-rows (omega (arith, is-q c (w .z) known)) (w .calls + made) goes
+        goes-2 c ts s o left r d′ (w .k + 1) (w .z) there (w .stride) is-stride (omega (arith, is-q c (w .z) known)) (w .calls + made) goes
         (record { sizes = t .sizes; fit = t .fit; so-far = one-more c ts o left more gate t; turns = omega (arith, t .turns) });
   }
 
@@ -653,7 +648,7 @@ module _ (s : List ℕ) (w : Walk) (g : Gate) (d d′ : List ℕ) (there : Curso
         (rw (e .answered) (evaluate-done c ts s o (Ready.Go (w .z)) (rw (t .fit, ← t .sizes)) (w .z) refl _ d′ are));
   }
 
-  write-on : Onward (w .k) (w .z) there (w .rows) (w .calls + made) r → WriteLeads s w g d r d′
+  write-on : Onward (w .k) (w .z) there (w .stride) (w .calls + made) r → WriteLeads s w g d r d′
   write-on next = go (decLt (w .k + 1) (w .z .q))
     where
       go : Dec (w .k + 1 < w .z .q) → WriteLeads s w g d r d′
@@ -662,32 +657,30 @@ module _ (s : List ℕ) (w : Walk) (g : Gate) (d d′ : List ℕ) (there : Curso
 
 module _ (t k s d : List ℕ) (w : Walk) (g : Gate) (asked : Writes t k s d w g) where
   -- the same after a gate that is not charged
-  pub write-on-free : (d′ : List ℕ) → FreeTokenIs (w .z .n) (w .k) g d d′ → (r : Walk) → Onward (w .k) (w .z) (w .here) (w .rows) (w .calls) r
+  pub write-on-free : (d′ : List ℕ) → FreeTokenIs (w .z .n) (w .k) g d d′ → (r : Walk) → Onward (w .k) (w .z) (w .here) (w .stride) (w .calls) r
       → WriteLeads s w g d r d′
   write-on-free d′ is r next =
       let e : w .calls + 0 ≡ w .calls = omega arith in
-      write-on s w g d d′ (w .here) 0 (is .left (getD s 2 0) s (w .here .at)) (asked .is-rows) r (rw e next)
+      write-on s w g d d′ (w .here) 0 (is .left (getD s 2 0) s (w .here .at)) (asked .is-stride) r (rw e next)
 
   -- and after a charged one
   module _ (h : charge (kindOf (g .code)) ≡ 1) where
     pub write-room : RecordRoom (getD s 2 0) (w .here .at) s
     write-room = charged-room (getD s 2 0) (g .code) (w .here .at) s (asked .start .record-room) h
 
-    pub write-fits : length s < 2 ^ 64 → w .here .at + 4 + 16 * w .rows < 18446744073709551616
-    write-fits l =
-        let e = past-is (getD s 2 0) (w .here .at) s write-room (w .rows) (asked .is-rows) (w .here .at + 4 + 16 * w .rows) refl in
-        omega (arith, e, write-room .room)
+    pub write-fits : length s < 2 ^ 64 → w .here .at + w .stride < 18446744073709551616
+    write-fits l = omega (arith, asked .is-stride, write-room .room)
 
     -- no count overflows
     pub write-calls : (next made : ℕ) (d′ : List ℕ) → TokenIs (getD s 2 0) (w .z .n) (w .k) g s (w .here .at) d next made d′ → Fits w64 (w .calls + made)
     write-calls next made d′ is =
         omega (arith, asked .few-calls, asked .few .more, asked .few .wires, few-made (getD s 2 0) (w .z .n) (w .k) g s (w .here .at) d next made d′ is)
 
-    pub write-on-charged : (there : Cursor) → there .at ≡ w .here .at + 4 + 16 * w .rows → (made : ℕ) (d′ : List ℕ)
-        → TokenIs (getD s 2 0) (w .z .n) (w .k) g s (w .here .at) d (w .here .at + (4 + 16 * schemeOf (getD s 2 0) .stored)) made d′ → (r : Walk)
-        → Onward (w .k) (w .z) there (w .rows) (w .calls + made) r → WriteLeads s w g d r d′
+    pub write-on-charged : (there : Cursor) → there .at ≡ w .here .at + w .stride → (made : ℕ) (d′ : List ℕ)
+        → TokenIs (getD s 2 0) (w .z .n) (w .k) g s (w .here .at) d (w .here .at + recordLength (schemeOf (getD s 2 0))) made d′ → (r : Walk)
+        → Onward (w .k) (w .z) there (w .stride) (w .calls + made) r → WriteLeads s w g d r d′
     write-on-charged there e made d′ is r next =
-        write-on s w g d d′ there made (rw (past-is (getD s 2 0) (w .here .at) s write-room (w .rows) (asked .is-rows) (there .at) e) is) (asked .is-rows) r next
+        write-on s w g d d′ there made (rw (e, asked .is-stride) is) (asked .is-stride) r next
 
 pub ruleset write-cases = (write-on-free, write-room, write-fits, write-calls, write-on-charged, charge-cases)
 

@@ -14,7 +14,9 @@ use Rattle.model.specs.declared.Refusal.the-variants.{Limits}
 use Rattle.model.specs.Bytes as B
 use Rattle.model.specs.Bytes.{tabulate}
 use Rattle.model.specs.Circuit.{circuitOf, inputs, gates, gateAt, kindOf, charge, charges, sizesHold, circuitBytes}
-use Rattle.model.specs.Material.{rowsStored, materialLength}
+use Rattle.model.specs.Scheme.{recordLength}
+use Rattle.model.specs.Garbling.{schemeOf}
+use Rattle.model.specs.Material.{materialLength}
 use Rattle.model.specs.Refusals.{fine, refused, refuse, _then_, firstOf, headVerdict, circuitVerdict}
 use Rattle.model.specs.Operations.{evaluatedOf, evaluateVerdict, evaluateGatesVerdict, EvaluateGatesIs}
 use Rattle.model.proofs.Lists.{tabulate-length}
@@ -23,7 +25,7 @@ use Rattle.model.proofs.Accepted.{header-holds}
 use Rattle.model.proofs.Records.{noGate, GateFits, inputs-made, outputs-made, gates-made, head-made, gate-made, mark-made}
 use Rattle.material.specs.Answers.{Accepted}
 use Rattle.material.proofs.SizeLaws.{limits, is-n, is-m, is-q, is-p, gates-many}
-use Rattle.material.proofs.RowLaws.{row-first, row-room, file-holds}
+use Rattle.material.proofs.RowLaws.{row-first, row-room, filed-holds}
 use Rattle.evaluate.specs.declared.list.Walk.{Walk}
 use Rattle.evaluate.specs.GateList.{Lent, Ended, GoesTo, Begun, GateIs, Stands, Few, Tries, Checks, Writes, TryLeads, CheckLeads, WriteLeads}
 use Rattle.evaluate.proofs.ReadyLaws.{evaluate-verdict}
@@ -56,7 +58,7 @@ module _ (c ts s o : List ℕ) (left : ℕ) (w : Walk) (d : List ℕ) (st : Stan
           charged-few = rw (t .counted) (omega (arith, charges-le (tabulate (w .k) (gateAt c)), tabulate-length (w .k) (gateAt c)));
         };
         near = t .near;
-        is-rows = st .rows (omega (arith, e));
+        is-stride = st .strides (omega (arith, e));
       }
 
   few-accepted : w .pass ≤ 2 → Accepted c (w .z) → Few (w .k) (w .z) (w .z .q)
@@ -70,17 +72,17 @@ module _ (c ts s o : List ℕ) (left : ℕ) (w : Walk) (d : List ℕ) (st : Stan
       }
 
   module _ (g : Gate) (is : GateIs c (w .k) g) where
-    checks : w .pass ≡ 1 → Checks ts s (w .k) (w .z) (w .rows) (w .here .at + charge (kindOf (g .code)) * (4 + 16 * w .rows))
+    checks : w .pass ≡ 1 → Checks ts s (w .k) (w .z) (w .stride) (w .here .at + charge (kindOf (g .code)) * w .stride)
     checks e =
         let t = st .pass-1 e in
         let known = t .known .circuit in
-        let file = file-holds c s (t .known .filed) in
+        let file = filed-holds c (w .z) s (t .known) in
         let go : w .pass ≤ 2 = omega (arith, e) in
         record {
           few = few-accepted go known;
-          is-rows = st .rows go;
+          is-stride = st .strides go;
           tokens = rw (is-n c (w .z) known) (t .tokens);
-          room = rw (st .rows go, is .is-g, t .rows .placed, is-m c (w .z) known) (row-room c s (file .whole) (w .k) (st .more go));
+          room = rw (st .strides go, is .is-g, t .rows .placed, is-m c (w .z) known) (row-room c s (file .whole) (w .k) (st .more go));
         }
 
     writes : w .pass ≡ 2 → (t k : List ℕ) → Lent t k → Writes t k s d w g
@@ -94,7 +96,7 @@ module _ (c ts s o : List ℕ) (left : ℕ) (w : Walk) (d : List ℕ) (st : Stan
         record {
           lent = lent;
           few = few-accepted go known;
-          is-rows = st .rows go;
+          is-stride = st .strides go;
           few-calls = walk-few c s _ _ (B.over ts o) start (w .k) (w .here .at) (w .calls) d (u .so-far);
           header = omega (arith, start .whole);
           start = rw (is-n c (w .z) known) (step-token (getD s 2 0) c (inputs c) (w .k) s (w .here .at) (w .calls) d step g (is .is-g));
@@ -141,7 +143,7 @@ module _ (n m : ℕ) (gs : List Gate) (ts s o : List ℕ) where
 
     -- the limits hold, or they do not
     starts : length gs ≤ 65535 → sizesHold n m (length gs) ≡ true → (w : Walk)
-        → GoesTo 0 0 (record { n = n; m = m; q = length gs; p = 0 }) (record { at = 9 }) (rowsStored (getD s 2 0)) 0 w → Stands (circuitBytes n m gs) ts s o (3 * length gs) w o
+        → GoesTo 0 0 (record { n = n; m = m; q = length gs; p = 0 }) (record { at = 9 }) (recordLength (schemeOf (getD s 2 0))) 0 w → Stands (circuitBytes n m gs) ts s o (3 * length gs) w o
     unfolding refuse firstOf charges
     starts h e w g =
         let head : headVerdict (circuitBytes n m gs) ≡ fine = rw e at (head-is h) in
@@ -196,7 +198,7 @@ module _ (n m : ℕ) (gs : List Gate) (ts s o : List ℕ) where
 
       module _ (fits : GateFits (getD gs (w .k) noGate)) where
         pub asks-1 : w .pass ≡ 1
-            → Checks ts s (w .k) (w .z) (w .rows) (w .here .at + charge (kindOf (getD gs (w .k) noGate .code)) * (4 + 16 * w .rows))
+            → Checks ts s (w .k) (w .z) (w .stride) (w .here .at + charge (kindOf (getD gs (w .k) noGate .code)) * w .stride)
         asks-1 e =
             let go : w .pass ≤ 2 = omega (arith, e) in
             checks (circuitBytes n m gs) ts s o left w d (good .few (goes-few left w d good go)) (getD gs (w .k) noGate) (gate-is go fits) e

@@ -1,5 +1,4 @@
 -- Laws of the functions.
-pub mod GateLaws
 pub mod WalkLaws
 pub mod LastLaws
 pub mod ReadyLaws

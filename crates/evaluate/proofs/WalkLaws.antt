@@ -1,10 +1,10 @@
 -- The walk over the gates: one gate's token, and the invariant of the loop. Assumes nothing.
 use Prim.Native.Nat.{ℕ, suc, _+_, _*_, _-_, _≤_, _<_}
-use native.Mathlib.Nat.{add-mul, mul-le-mul, mul-le-mul-right, zero-mul}
+use native.Mathlib.Nat.{mul-le-mul, zero-mul}
 use native.Mathlib.Numerals.{add-one}
 use native.Mathlib.Omega.{arith}
 use mathlib.Core.Path.{_≡_, refl, sym, ap, ap₂, _∙_}
-use mathlib.Core.Bool.{false}
+use mathlib.Core.Bool.{false, false≢true}
 use mathlib.Core.List.{List, [], _∷_, _++_}
 use lib.ListN.{length, getD, take, drop, take-append-drop}
 use lib.Seq.{drop-drop, length-take-le, take-at}
@@ -12,12 +12,12 @@ use mir.Syntax.{w16, w64}
 use mir.Val.{Fits}
 use Rattle.model.specs.declared.Gate.{Gate}
 use Rattle.model.specs.Bytes.{tabulate, over, put}
-use Rattle.model.specs.Circuit.{Kind, charged, free, refused, circuitOf, inputs, gates, gateAt, gateWire, kindOf, charge, charges, wire}
+use Rattle.model.specs.Circuit.{Kind, charged, free, refused, circuitOf, inputs, outputs, gates, gateAt, gateWire, kindOf, charge, charges, wire}
 use Rattle.model.specs.Aes.{Block, block}
-use Rattle.model.specs.Scheme.{Scheme}
+use Rattle.model.specs.Scheme.{Scheme, recordLength}
 use Rattle.model.specs.Garbling.{schemeOf}
 use Rattle.model.specs.Tokens.{freeToken}
-use Rattle.model.specs.Material.{joinBlocks, materialLength, rowsStored}
+use Rattle.model.specs.Material.{joinBlocks, lastStart, materialLength}
 use Rattle.model.specs.Evaluation.{cut, openAt, openStep, run, evaluate, evaluateBytes, tokenAt}
 use Rattle.model.specs.Calls.{evaluateAsks, evaluateCallsAt, evaluateCalls}
 use Rattle.model.specs.Operations.{evaluateCallsOf}
@@ -27,18 +27,28 @@ use Rattle.model.proofs.Accepted.{HeaderHolds, GateHolds, accepted-header, acce
 use Rattle.model.proofs.Lists.{tabulate-snoc, tabulate-length}
 use Rattle.model.proofs.Buffers.{over-length, over-over, over-put, put-length}
 use Rattle.model.proofs.Blocks.{Blocks, blocks-length, join-length, join-snoc, cut-blocks, cut-take, join-cut, token-at-front}
-use Rattle.model.proofs.Circuits.{charge-le, charges-le, charges-snoc, charges-among}
+use Rattle.model.proofs.Circuits.{charge-le, charges-le}
+use Rattle.model.proofs.Places.{length-last, start-first, start-next, record-fits}
 use Rattle.model.proofs.Calls.{asked-few, evaluate-calls-at, evaluate-calls-all, evaluate-calls-snoc}
-use Rattle.model.proofs.Gates.{recordLength, open-at-wide}
+use Rattle.model.proofs.Gates.{open-at-wide}
 use Rattle.model.proofs.Lengths.{run-blocks}
 use Rattle.model.proofs.OneMore.{run-snoc}
-use Rattle.model.proofs.Schemes.{scheme-sound, rows-stored}
-use Rattle.circuit.specs.Answers.{TakesIs}
+use Rattle.model.proofs.Schemes.{scheme-sound}
+use Rattle.circuit.specs.Answers.{TakesIs, takesA, takesB}
 use Rattle.scheme.specs.declared.OpenedGate.{OpenedGate}
 use Rattle.scheme.specs.Garbled.{OpenedIs}
-use Rattle.evaluate.specs.Gate.{RecordRoom, GateRoom}
-use Rattle.evaluate.proofs.GateLaws.{free-opened}
-use Rattle.evaluate.specs.Walk.{Operands, TokenStart, TokenIs, FreeTokenIs, StepStart, StepIs, WalkStart, WiresStart, S, tokensTo, recordStart, Walking, WalkedIs, WiresAre}
+use Rattle.scheme.specs.Rows.{RecordRoom}
+use Rattle.evaluate.specs.Walk.{Operands, GateRoom, TokenStart, TokenIs, FreeTokenIs, StepStart, StepIs, WalkStart, WiresStart, S, tokensTo, Walking, WalkedIs, WiresAre}
+
+-- a free gate's token, from the operands that its code takes
+free-opened : (S : Scheme) (k : Kind) → isRefused k ≡ false → charge k ≡ 0 → (g : ℕ) (bs : List ℕ) (a b : Block) → openAt S k g bs a b ≡ freeToken (takesA k) (takesB k) a b
+unfolding openAt
+free-opened S (charged u v x) known none g bs a b = absurd (one none)
+  where
+    one : charge (charged u v x) ≡ 0 → ⊥
+    one i = omega arith
+free-opened S (free p q c) known none g bs a b = refl
+free-opened S refused known none g bs a b = absurd (false≢true (sym known))
 
 -- a charged gate's token, by its scheme
 charged-opens : (S : Scheme) (k : Kind) → charge k ≡ 1 → (g : ℕ) (bs : List ℕ) (A B : Block) → openAt S k g bs A B ≡ S .opened g (cut (S .stored) (drop 4 bs)) A B
@@ -101,7 +111,7 @@ module _ (n k : ℕ) (g : Gate) (d : List ℕ) (A B : Block) (is-A : A ≡ take 
 
   pub charged-done : (scheme : ℕ) (s : List ℕ) (at : ℕ) → charge (kindOf (g .code)) ≡ 1 → (r : OpenedGate) → d′ ≡ put d (16 * (n + k)) (r .token .bytes)
       → OpenedIs (schemeOf scheme .opened (n + k + 1) (cut (schemeOf scheme .stored) (drop 4 (drop at s))) A B) (evaluateAsks scheme (n + k + 1) A B) r
-      → TokenIs scheme n k g s at d (at + (4 + 16 * schemeOf scheme .stored)) (r .calls) d′
+      → TokenIs scheme n k g s at d (at + recordLength (schemeOf scheme)) (r .calls) d′
   unfolding tokenAt
   charged-done scheme s at h r is-d is-r = record {
     token-left = is-d ∙ rw (is-r .is-token ∙ sym (charged-opens (schemeOf scheme) (kindOf (g .code)) h (gateWire n k) (drop at s) A B), is-A, is-B);
@@ -111,13 +121,8 @@ module _ (n k : ℕ) (g : Gate) (d : List ℕ) (A B : Block) (is-A : A ≡ take 
 
 pub ruleset token-cases = (token-own, token-low-b, token-load-a, token-load-b, free-done, charged-done)
 
--- ---- past a charged gate's record, of as many rows as its scheme stores
-module _ (scheme at : ℕ) (s : List ℕ) (r : RecordRoom scheme at s) (rows : ℕ) (is-rows : rows ≡ rowsStored scheme) where
-  pub past-is : (next : ℕ) → next ≡ at + 4 + 16 * rows → next ≡ at + (4 + 16 * schemeOf scheme .stored)
-  past-is next e = rw (rows-stored scheme (r .low) (r .high), ← is-rows) (e ∙ omega arith)
-
 pub charged-room : (scheme code at : ℕ) (s : List ℕ) → GateRoom scheme code at s → charge (kindOf code) ≡ 1 → RecordRoom scheme at s
-charged-room scheme code at s r h = let l = rw h at (r .room) in record { low = r .low; high = r .high; room = omega arith }
+charged-room scheme code at s r h = let l = rw h at (r .room) in record { known = r .known; room = omega arith }
 
 -- at most two calls of π for a gate
 pub few-made : (scheme n k : ℕ) (g : Gate) (s : List ℕ) (at : ℕ) (d : List ℕ) (next made : ℕ) (d′ : List ℕ) → TokenIs scheme n k g s at d next made d′ → made ≤ 2
@@ -169,10 +174,10 @@ module _ (scheme : ℕ) (c : List ℕ) (n k : ℕ) (s : List ℕ) (at calls : �
   pub step-free : (g : Gate) → g ≡ gateAt c k → (d′ : List ℕ) → FreeTokenIs n k g d d′ → StepIs scheme n k (gateAt c k) s at calls d at calls d′
   step-free g is-g d′ t = record { made = 0; token = rw (← is-g) (t .left scheme s at); added = omega arith }
 
-  module _ (g : Gate) (is-g : g ≡ gateAt c k) (h : charge (kindOf (g .code)) ≡ 1) (rows : ℕ) (is-rows : rows ≡ rowsStored scheme) where
-    pub step-charged : (next : ℕ) → next ≡ at + 4 + 16 * rows → (made : ℕ) (d′ : List ℕ) → TokenIs scheme n k g s at d (at + (4 + 16 * schemeOf scheme .stored)) made d′
+  module _ (g : Gate) (is-g : g ≡ gateAt c k) (bytes : ℕ) (is-bytes : bytes ≡ recordLength (schemeOf scheme)) where
+    pub step-charged : (next : ℕ) → next ≡ at + bytes → (made : ℕ) (d′ : List ℕ) → TokenIs scheme n k g s at d (at + recordLength (schemeOf scheme)) made d′
         → StepIs scheme n k (gateAt c k) s at calls d next (calls + made) d′
-    step-charged next e made d′ t = record { made = made; token = rw (past-is scheme at s (step-room g is-g h) rows is-rows next e, ← is-g) t; added = refl }
+    step-charged next e made d′ t = record { made = made; token = rw (e, is-bytes, ← is-g) t; added = refl }
 
   -- no count overflows
   pub step-calls : (g : Gate) (next made : ℕ) (d′ : List ℕ) → TokenIs scheme n k g s at d next made d′ → Fits w64 (calls + made)
@@ -199,14 +204,10 @@ tokens-blocks c s k {n} r =
     rw (tabulate-length k (gateAt c)) at (run-blocks (S s) (scheme-sound (getD s 2 0)) (tabulate k (gateAt c)) (drop 9 s) r)
 
 tokens-more : (c s : List ℕ) (ts : List Block) (k : ℕ)
-    → tokensTo c s ts (suc k) ≡ tokensTo c s ts k ++ (openStep (S s) (drop (recordStart c s k) s) (tokensTo c s ts k) (gateAt c k) ∷ [])
-unfolding tokensTo recordStart
+    → tokensTo c s ts (suc k) ≡ tokensTo c s ts k ++ (openStep (S s) (drop (lastStart (getD s 2 0) (charges (tabulate k (gateAt c)))) s) (tokensTo c s ts k) (gateAt c k) ∷ [])
+unfolding tokensTo lastStart
 tokens-more c s ts k =
     rw (tabulate-snoc k (gateAt c), run-snoc, drop-drop (charges (tabulate k (gateAt c)) * recordLength (S s)) 9 s)
-
-start-more : (c s : List ℕ) (k : ℕ) → recordStart c s (suc k) ≡ recordStart c s k + charge (kindOf (gateAt c k .code)) * recordLength (S s)
-unfolding recordStart
-start-more c s k = rw (tabulate-snoc k (gateAt c), charges-snoc, add-mul) (omega arith)
 
 -- the first n blocks of a buffer stand at its front
 front : (n : ℕ) (o : List ℕ) → 16 * n ≤ length o → o ≡ over (joinBlocks (cut n o)) o
@@ -227,11 +228,11 @@ module _ (c s : List ℕ) (n q : ℕ) (o : List ℕ) (start : WalkStart c s n q 
   walk-scheme = omega (arith, start .whole)
 
   pub walk-start : (at : ℕ) → at ≡ 9 → Walking c s n q o 0 at 0 o
-  unfolding tokensTo run recordStart charges evaluateCalls
+  unfolding tokensTo run charges evaluateCalls
   walk-start at e = record {
     within = omega arith;
     same-length = refl;
-    is-at = e ∙ omega arith;
+    is-at = e ∙ sym (start-first (getD s 2 0) (gateAt c));
     so-far = front n o (omega (arith, start .room));
     counted = refl;
   }
@@ -253,19 +254,17 @@ module _ (c s : List ℕ) (n q : ℕ) (o : List ℕ) (start : WalkStart c s n q 
 
     module _ (more : k < q) where
       room-at : at + charge (kindOf (gateAt c k .code)) * recordLength (S s) ≤ length s
-      unfolding recordStart materialLength circuitOf
+      unfolding circuitOf
       room-at =
-          let h : k < gates c = omega (arith, start .is-q) in
-          let m = mul-le-mul-right (recordLength (S s)) (charges-among (gateAt c) k (gates c) h) in
-          let w = rw (← rows-stored (getD s 2 0) (start .scheme-low) (start .scheme-high)) at (start .whole) in
-          omega (arith, rw add-mul at m, inv .is-at)
+          let fits = record-fits (getD s 2 0) (gateAt c) k (gates c) (omega (arith, start .is-q)) in
+          omega (arith, fits, inv .is-at, start .whole, length-last (getD s 2 0) (outputs c) (charges (tabulate (gates c) (gateAt c))))
 
       pub walk-step : StepStart (getD s 2 0) c n k s at calls d
       walk-step = record {
         accepted = start .accepted;
         is-n = start .is-n;
         more = omega (arith, start .is-q);
-        record-room = record { low = start .scheme-low; high = start .scheme-high; room = room-at };
+        record-room = record { known = start .known; room = room-at };
         token-room = omega (arith, start .room, inv .same-length);
         few-calls = walk-few;
       }
@@ -281,7 +280,7 @@ module _ (c s : List ℕ) (n q : ℕ) (o : List ℕ) (start : WalkStart c s n q 
       token-held w h l = rw (inv .so-far) (token-at-front held w h l _)
 
       token-next : openAt (S s) (kindOf (gateAt c k .code)) (gateWire n k) (drop at s) (tokenAt d (gateAt c k .a .0)) (tokenAt d (gateAt c k .b .0))
-          ≡ openStep (S s) (drop (recordStart c s k) s) (tokensTo c s (cut n o) k) (gateAt c k)
+          ≡ openStep (S s) (drop (lastStart (getD s 2 0) (charges (tabulate k (gateAt c)))) s) (tokensTo c s (cut n o) k) (gateAt c k)
       unfolding openStep
       token-next =
           let a = operands-held in
@@ -315,13 +314,13 @@ module _ (c s : List ℕ) (n q : ℕ) (o : List ℕ) (start : WalkStart c s n q 
 
       pub walk-turn : (next made : ℕ) (d′ : List ℕ) → TokenIs (getD s 2 0) n k (gateAt c k) s at d next made d′ → Walking c s n q o (k + 1) next (calls + made) d′
       walk-turn next made d′ step =
-          let x : Block = openStep (S s) (drop (recordStart c s k) s) (tokensTo c s (cut n o) k) (gateAt c k) in
+          let x : Block = openStep (S s) (drop (lastStart (getD s 2 0) (charges (tabulate k (gateAt c)))) s) (tokensTo c s (cut n o) k) (gateAt c k) in
           let wide : length x ≡ 16 = unfold openStep in (open-at-wide (S s) (scheme-sound (getD s 2 0)) _ _ _ _ _) in
           let left : d′ ≡ put d (16 * (n + k)) x = rw token-next at (step .token-left) in
           record {
             within = omega arith;
             same-length = rw left (put-length d (16 * (n + k)) x (omega (arith, inv .same-length, start .room)) ∙ inv .same-length);
-            is-at = rw (add-one, start-more) (rw (inv .is-at) at (step .is-next));
+            is-at = step .is-next ∙ rw (inv .is-at) (sym (start-next (getD s 2 0) (gateAt c) k));
             so-far = rw (add-one, tokens-more) (left ∙ rw (inv .so-far) (over-block held x o wide (omega (arith, start .room))));
             counted = rw add-one (counted-next made (step .calls-made));
           }
@@ -343,8 +342,7 @@ module _ (c ts s : List ℕ) (n q : ℕ) (o : List ℕ) (start : WiresStart c ts
         accepted = w .accepted;
         is-n = w .is-n;
         is-q = w .is-q;
-        scheme-low = w .scheme-low;
-        scheme-high = w .scheme-high;
+        known = w .known;
         whole = w .whole;
         room = rw same (w .room);
       }

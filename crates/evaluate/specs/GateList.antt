@@ -14,7 +14,8 @@ use Rattle.model.specs.Bytes.{tabulate, over}
 use Rattle.model.specs.Circuit.{circuitOf, inputs, outputs, gates, markAt, recordAt, gateAt, kindOf, charge, charges, sizesHold}
 use Rattle.aes.specs.Tables.{IsTTables}
 use Rattle.model.specs.Aes.{keyExpansion, fixedKey}
-use Rattle.model.specs.Material.{rowsStored}
+use Rattle.model.specs.Scheme.{recordLength}
+use Rattle.model.specs.Garbling.{schemeOf}
 use Rattle.model.specs.Refusals.{fine, firstOf, headVerdict, gatesVerdict, rowStart, rowVerdict, rowRecordAt}
 use Rattle.model.specs.Operations.{sizesOf, evaluatedOf, evaluateVerdict, EvaluateIs}
 use Rattle.material.specs.declared.records.Cursor.{Cursor}
@@ -29,13 +30,13 @@ pub record Lent (t k : List ℕ) : Type 0 where
 
 -- ---- the walk's steps
 
--- on to gate k of a pass, with so many rows of a charged gate, and so many calls of π made
-pub record GoesTo (pass k : ℕ) (z : Sizes) (here : Cursor) (rows calls : ℕ) (w : Walk) : Type 0 where
+-- on to gate k of a pass, with row records of so many bytes, and so many calls of π made
+pub record GoesTo (pass k : ℕ) (z : Sizes) (here : Cursor) (stride calls : ℕ) (w : Walk) : Type 0 where
   pub is-pass : w .pass ≡ pass
   pub is-k : w .k ≡ k
   pub is-z : w .z ≡ z
   pub is-here : w .here ≡ here
-  pub is-rows : w .rows ≡ rows
+  pub is-stride : w .stride ≡ stride
   pub is-calls : w .calls ≡ calls
 
 -- it is over
@@ -43,14 +44,14 @@ pub record Ended (a : Evaluated) (w : Walk) : Type 0 where
   pub over : w .pass ≡ 3
   pub answered : w .answer ≡ a
 
--- 3: "more than 65,535 records", or sizes that break a limit. Else the rows are those of the material's scheme byte
+-- 3: "more than 65,535 records", or sizes that break a limit. Else the bytes of a row record are those of the material's scheme byte
 pub record Begun (n m q : ℕ) (s : List ℕ) (w : Walk) : Type 0 where
-  pub goes : (leb q 65535 && sizesHold n m q) ≡ true → GoesTo 0 0 (record { n = n; m = m; q = q; p = 0 }) (record { at = 9 }) (rowsStored (getD s 2 0)) 0 w
+  pub goes : (leb q 65535 && sizesHold n m q) ≡ true → GoesTo 0 0 (record { n = n; m = m; q = q; p = 0 }) (record { at = 9 }) (recordLength (schemeOf (getD s 2 0))) 0 w
   pub stops : (leb q 65535 && sizesHold n m q) ≡ false → Ended (Evaluated.Refused Limits) w
 
 -- the token of gate k is written, and so many calls of π are made: on to the next gate, or over
-pub record Onward (k : ℕ) (z : Sizes) (there : Cursor) (rows calls : ℕ) (w : Walk) : Type 0 where
-  pub goes : k + 1 < z .q → GoesTo 2 (k + 1) z there rows calls w
+pub record Onward (k : ℕ) (z : Sizes) (there : Cursor) (stride calls : ℕ) (w : Walk) : Type 0 where
+  pub goes : k + 1 < z .q → GoesTo 2 (k + 1) z there stride calls w
   pub stops : z .q ≤ k + 1 → Ended (Evaluated.Done calls) w
 
 -- g is gate k of the circuit, and its record has its mark
@@ -102,7 +103,7 @@ pub record Written (c ts s o : List ℕ) (left k : ℕ) (z : Sizes) (at calls : 
 pub record Stands (c ts s o : List ℕ) (left : ℕ) (w : Walk) (d : List ℕ) : Type 0 where
   pub passes : w .pass ≤ 3
   pub more : w .pass ≤ 2 → w .k < gates c
-  pub rows : w .pass ≤ 2 → w .rows ≡ rowsStored (getD s 2 0)
+  pub strides : w .pass ≤ 2 → w .stride ≡ recordLength (schemeOf (getD s 2 0))
   pub pass-0 : w .pass ≡ 0 → Tried c s o left (w .k) (w .z) (w .here .at) d
   pub pass-1 : w .pass ≡ 1 → Checked c ts s o left (w .k) (w .z) (w .here .at) d
   pub pass-2 : w .pass ≡ 2 → Written c ts s o left (w .k) (w .z) (w .here .at) (w .calls) d
@@ -117,26 +118,26 @@ pub record Few (k : ℕ) (z : Sizes) (most : ℕ) : Type 0 where
   pub outputs-few : z .m ≤ z .q
   pub charged-few : z .p ≤ most
 
--- past the row record, of so many rows, of a gate of charge x: the index itself for a free gate; for a charged one past its record, exactly if it stands
+-- past the row record, of so many bytes, of a gate of charge x: the index itself for a free gate; for a charged one past its record, exactly if it stands
 -- there with its mark and the wire number that is due, and else 0
-pub record RowPassed (s : List ℕ) (at rows x due past : ℕ) : Type 0 where
+pub record RowPassed (s : List ℕ) (at stride x due past : ℕ) : Type 0 where
   pub free : x ≡ 0 → past ≡ at
-  pub right : (x ≡ 0 → ⊥) → at + 4 ≤ length s → rowRecordAt s at due ≡ true → past ≡ at + 4 + 16 * rows
+  pub right : (x ≡ 0 → ⊥) → at + 4 ≤ length s → rowRecordAt s at due ≡ true → past ≡ at + stride
   pub within : (x ≡ 0 → ⊥) → (past ≡ 0 → ⊥) → at + 4 ≤ length s
   pub found : (x ≡ 0 → ⊥) → (past ≡ 0 → ⊥) → rowRecordAt s at due ≡ true
-  pub gone : (x ≡ 0 → ⊥) → (past ≡ 0 → ⊥) → past ≡ at + 4 + 16 * rows
-  pub near : past ≤ at + 4 + 16 * rows
+  pub gone : (x ≡ 0 → ⊥) → (past ≡ 0 → ⊥) → past ≡ at + stride
+  pub near : past ≤ at + stride
 
--- pass 0 at a gate: no count overflows, nor the place past its row record, whose rows are those of the scheme byte
+-- pass 0 at a gate: no count overflows, nor the place past its row record, whose bytes are those of the scheme byte
 pub record Tries (s : List ℕ) (w : Walk) : Type 0 where
   pub few : Few (w .k) (w .z) (w .k)
   pub near : w .here .at ≤ 9 + 68 * w .k
-  pub is-rows : w .rows ≡ rowsStored (getD s 2 0)
+  pub is-stride : w .stride ≡ recordLength (schemeOf (getD s 2 0))
 
 -- past the row record of gate k, at an index, there is room for the last record
-pub record Checks (ts s : List ℕ) (k : ℕ) (z : Sizes) (rows at : ℕ) : Type 0 where
+pub record Checks (ts s : List ℕ) (k : ℕ) (z : Sizes) (stride at : ℕ) : Type 0 where
   pub few : Few k z (z .q)
-  pub is-rows : rows ≡ rowsStored (getD s 2 0)
+  pub is-stride : stride ≡ recordLength (schemeOf (getD s 2 0))
   pub tokens : length ts ≡ 16 * z .n
   pub room : at + 2 + z .m ≤ length s
 
@@ -144,7 +145,7 @@ pub record Checks (ts s : List ℕ) (k : ℕ) (z : Sizes) (rows at : ℕ) : Type
 pub record Writes (t k s d : List ℕ) (w : Walk) (g : Gate) : Type 0 where
   pub lent : Lent t k
   pub few : Few (w .k) (w .z) (w .z .q)
-  pub is-rows : w .rows ≡ rowsStored (getD s 2 0)
+  pub is-stride : w .stride ≡ recordLength (schemeOf (getD s 2 0))
   pub few-calls : w .calls ≤ 2 * w .k
   pub header : 9 ≤ length s
   pub start : TokenStart (getD s 2 0) (w .z .n) (w .k) g s (w .here .at) d
@@ -158,7 +159,7 @@ pub record TriedLeads (ts s : List ℕ) (k : ℕ) (z : Sizes) (here there : ℕ)
   pub leads : (c o d : List ℕ) (left : ℕ) → Guessed c s k here → Tried c s o left (k + 1) z there d → Stands c ts s o left r d
 
 pub record TryLeads (ts s : List ℕ) (w : Walk) (g : Gate) (r : Walk) : Type 0 where
-  pub looked : r .pass ≡ 0 → RowPassed s (w .here .at) (w .rows) (charge (kindOf (g .code))) (w .z .n + w .k + 1) (r .here .at)
+  pub looked : r .pass ≡ 0 → RowPassed s (w .here .at) (w .stride) (charge (kindOf (g .code))) (w .z .n + w .k + 1) (r .here .at)
   pub starts : (w .here .at ≡ 0 → ⊥) → r .pass ≡ 1 → r .k ≡ w .k
   pub leads : (c o d : List ℕ) (left : ℕ) → w .k < gates c → GateIs c (w .k) g → Tried c s o (suc left) (w .k) (w .z) (w .here .at) d → Stands c ts s o left r d
 

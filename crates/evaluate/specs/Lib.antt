@@ -1,5 +1,4 @@
 -- What this crate's functions ask and leave, in the model's terms.
-pub mod Gate
 pub mod Walk
 pub mod Last
 pub mod Outputs

@@ -8,14 +8,13 @@ use Rattle.model.specs.declared.Gate.{Gate}
 use Rattle.model.specs.Bytes.{tabulate, over, put}
 use Rattle.model.specs.Circuit.{circuitOf, inputs, outputs, gates, gateAt, gateWire, kindOf, charge, charges}
 use Rattle.model.specs.Aes.{Block}
-use Rattle.model.specs.Scheme.{Scheme}
-use Rattle.model.specs.Garbling.{schemeOf}
-use Rattle.model.specs.Material.{joinBlocks, materialLength}
+use Rattle.model.specs.Scheme.{Scheme, recordLength}
+use Rattle.model.specs.Garbling.{Known, schemeOf}
+use Rattle.model.specs.Material.{joinBlocks, lastStart, materialLength}
 use Rattle.model.specs.Evaluation.{cut, openAt, run, evaluate, evaluateBytes, tokenAt}
 use Rattle.model.specs.Calls.{evaluateCallsAt, evaluateCalls}
 use Rattle.model.specs.Operations.{evaluateCallsOf}
 use Rattle.model.specs.Refusals.{fine, isRefused, circuitVerdict}
-use Rattle.evaluate.specs.Gate.{GateRoom}
 
 -- gate g is the next, k gates after n inputs, its operands stand before it and its code is not refused; d is the buffer of the tokens
 pub record Operands (n k : ℕ) (g : Gate) (d : List ℕ) : Type 0 where
@@ -26,6 +25,11 @@ pub record Operands (n k : ℕ) (g : Gate) (d : List ℕ) : Type 0 where
   pub known : isRefused (kindOf (g .code)) ≡ false
   pub token-room : 16 * (n + k) + 16 ≤ length d
 
+-- room for the record of a gate of this code at an index of the material s, where it is charged; a free gate has none
+pub record GateRoom (scheme code at : ℕ) (s : List ℕ) : Type 0 where
+  pub known : Known scheme
+  pub room : at + charge (kindOf code) * recordLength (schemeOf scheme) ≤ length s
+
 -- and its record is at an index of the material s if it is charged
 pub record TokenStart (scheme n k : ℕ) (g : Gate) (s : List ℕ) (at : ℕ) (d : List ℕ) : Type 0 where
   pub operands : Operands n k g d
@@ -34,7 +38,7 @@ pub record TokenStart (scheme n k : ℕ) (g : Gate) (s : List ℕ) (at : ℕ) (d
 -- its token, made from those of its operands in the buffer, which is d at entry and d′ at exit, and the calls of π made
 pub record TokenIs (scheme n k : ℕ) (g : Gate) (s : List ℕ) (at : ℕ) (d : List ℕ) (next calls : ℕ) (d′ : List ℕ) : Type 0 where
   pub token-left : d′ ≡ put d (16 * (n + k)) (openAt (schemeOf scheme) (kindOf (g .code)) (gateWire n k) (drop at s) (tokenAt d (g .a .0)) (tokenAt d (g .b .0)))
-  pub is-next : next ≡ at + charge (kindOf (g .code)) * (4 + 16 * schemeOf scheme .stored)
+  pub is-next : next ≡ at + charge (kindOf (g .code)) * recordLength (schemeOf scheme)
   pub calls-made : calls ≡ evaluateCallsAt scheme (kindOf (g .code)) (gateWire n k) (tokenAt d (g .a .0)) (tokenAt d (g .b .0))
 
 -- that of a free gate, by every scheme and over every material: the next record is still at its index, and π was not called
@@ -61,8 +65,7 @@ pub record WalkStart (c s : List ℕ) (n q : ℕ) (o : List ℕ) : Type 0 where
   pub accepted : circuitVerdict c ≡ fine
   pub is-n : n ≡ inputs c
   pub is-q : q ≡ gates c
-  pub scheme-low : 1 ≤ getD s 2 0
-  pub scheme-high : getD s 2 0 ≤ 3
+  pub known : Known (getD s 2 0)
   pub whole : length s ≡ materialLength (getD s 2 0) (outputs c) (charges (circuitOf c .gates))
   pub room : 16 * (n + q) ≤ length o
 
@@ -81,15 +84,11 @@ S s = schemeOf (getD s 2 0)
 unfoldable pub tokensTo : List ℕ → List ℕ → List Block → ℕ → List Block
 tokensTo c s ts k = run (S s) (tabulate k (gateAt c)) (drop 9 s) ts
 
--- where the record of gate k stands, or would stand
-unfoldable pub recordStart : List ℕ → List ℕ → ℕ → ℕ
-recordStart c s k = 9 + charges (tabulate k (gateAt c)) * (4 + 16 * S s .stored)
-
 -- d is the buffer after k gates of q and so many calls of π, and o at the start, whose first n blocks are the inputs' tokens
 pub record Walking (c s : List ℕ) (n q : ℕ) (o : List ℕ) (k at calls : ℕ) (d : List ℕ) : Type 0 where
   pub within : k ≤ q
   pub same-length : length d ≡ length o
-  pub is-at : at ≡ recordStart c s k
+  pub is-at : at ≡ lastStart (getD s 2 0) (charges (tabulate k (gateAt c)))
   pub so-far : d ≡ over (joinBlocks (tokensTo c s (cut n o) k)) o
   pub counted : calls ≡ evaluateCalls (getD s 2 0) (tabulate k (gateAt c)) (drop 9 s) (cut n o)
 

@@ -8,7 +8,6 @@ use circuit::values::Ready;
 use model::Evaluated;
 use model::Ran;
 
-pub mod gate; // one gate
 pub mod last; // decoding
 pub mod list; // a list of gate records
 pub mod outputs; // the outputs' tokens

@@ -7,10 +7,11 @@
 // All is decided here; `walk_gates` below only hands over one record after the other, in a loop for each pass.
 // Whatever enciphers is lent the T-tables t and the schedule w of π's fixed key.
 ghost use mathlib.Core.Path.{_≡_};
-ghost use Prim.Native.Nat.{_+_, _*_, _<_};
+ghost use Prim.Native.Nat.{_+_, _*_, _≤_, _<_};
 ghost use lib.ListN.{getD};
 ghost use Rattle.model.specs.Circuit.{kindOf, charge};
-ghost use Rattle.model.specs.Material.{rowsStored};
+ghost use Rattle.model.specs.Scheme.{recordLength};
+ghost use Rattle.model.specs.Garbling.{schemeOf};
 ghost use Rattle.model.specs.Operations.{evaluatedOf, EvaluateGatesIs};
 ghost use Rattle.evaluate.specs.GateList.{Lent, Ended, GoesTo, Begun, Onward, Few, RowPassed, Tries, Checks, Writes, TriedLeads, TryLeads, CheckedLeads, CheckLeads, WriteLeads};
 use crate::walk::write_charged;
@@ -24,9 +25,9 @@ use circuit::gates::read_gate;
 use circuit::header::sizes_hold;
 use material::file::check_file;
 use material::last::check_last;
+use material::record_length;
 use material::records::Cursor;
 use material::records::is_row;
-use material::rows_stored;
 use model::Evaluated;
 use model::Gate;
 use model::Ran;
@@ -42,12 +43,12 @@ pub struct Walk {
     pub z: Sizes, // the sizes; p is counted in pass 0
     pub here: Cursor, // where the next row record is due; in pass 0 place 0, once one was not right
     pub answer: Evaluated, // if it is over
-    pub rows: usize, // of a charged gate, by the material's scheme byte: worked out once, before the first gate
+    pub stride: usize, // the bytes of a row record, by the material's scheme byte: worked out once, before the first gate
     pub calls: usize, // of π, made in pass 2
 }
 
 // It is over: this is the answer.
-fn ended(k: usize, z: Sizes, here: Cursor, rows: usize, answer: Evaluated) -> Walk
+fn ended(k: usize, z: Sizes, here: Cursor, stride: usize, answer: Evaluated) -> Walk
     ensures { λ r. ⌜ Ended answer r ⌝ }
 {
     Walk {
@@ -56,14 +57,14 @@ fn ended(k: usize, z: Sizes, here: Cursor, rows: usize, answer: Evaluated) -> Wa
         z,
         here,
         answer,
-        rows,
+        stride,
         calls: 0,
     }
 }
 
 // On to gate k of a pass.
-fn go_to(pass: u8, k: usize, z: Sizes, here: Cursor, rows: usize, calls: usize) -> Walk
-    ensures { λ r. ⌜ GoesTo pass k z here rows calls r ⌝ }
+fn go_to(pass: u8, k: usize, z: Sizes, here: Cursor, stride: usize, calls: usize) -> Walk
+    ensures { λ r. ⌜ GoesTo pass k z here stride calls r ⌝ }
 {
     Walk {
         pass,
@@ -71,22 +72,22 @@ fn go_to(pass: u8, k: usize, z: Sizes, here: Cursor, rows: usize, calls: usize) 
         z,
         here,
         answer: Evaluated::Done(0),
-        rows,
+        stride,
         calls,
     }
 }
 
-// The rows of a charged gate, by the material's scheme byte; where there is none, as for byte 0.
-fn scheme_rows(material: &[u8]) -> usize
-    ensures { λ r. ⌜ r ≡ rowsStored (getD (now (material .entry)) 2 0) ⌝ }
+// The bytes of a row record, by the material's scheme byte; where there is none, as for byte 0.
+fn stride_of(material: &[u8]) -> usize
+    ensures { λ r. ⌜ r ≡ recordLength (schemeOf (getD (now (material .entry)) 2 0)) ⌝ }
 {
     if material.len() <= 2 {
-        return rows_stored(0);
+        return record_length(0);
     }
-    rows_stored(material[2])
+    record_length(material[2])
 }
 
-// Before the first gate: 3, for q records; and the rows.
+// Before the first gate: 3, for q records; and the stride.
 pub fn begin(n: u16, m: u16, q: usize, material: &[u8]) -> Walk
     ensures { λ r. ⌜ Begun n m q (now (material .entry)) r ⌝ }
 {
@@ -94,22 +95,22 @@ pub fn begin(n: u16, m: u16, q: usize, material: &[u8]) -> Walk
     let m = m as usize;
     let z = Sizes { n, m, q, p: 0 };
     let first = Cursor::first();
-    let rows = scheme_rows(material);
+    let stride = stride_of(material);
     if 65535 < q {
-        return ended(0, z, first, rows, Evaluated::Refused(Refusal::Limits));
+        return ended(0, z, first, stride, Evaluated::Refused(Refusal::Limits));
     }
     if !sizes_hold(n, m, q) {
-        return ended(0, z, first, rows, Evaluated::Refused(Refusal::Limits));
+        return ended(0, z, first, stride, Evaluated::Refused(Refusal::Limits));
     }
-    go_to(0, 0, z, first, rows, 0)
+    go_to(0, 0, z, first, stride, 0)
 }
 
 // Past the row record of a gate of charge x, if its mark and the wire number that is due stand here; else place 0, where a right
 // material has its header's mark and so no row record. A free gate has none. For any bytes; whether the rows lie within them is not
 // asked, since a material of the right length has all of them.
-fn row_passed(material: &[u8], here: Cursor, rows: usize, x: usize, due: Wire) -> Cursor
-    requires { ⌜ here .at + 4 + 16 * rows < 18446744073709551616 ⌝ }
-    ensures { λ r. ⌜ RowPassed (now (material .entry)) (here .at) rows x (due .0) (r .at) ⌝ }
+fn row_passed(material: &[u8], here: Cursor, stride: usize, x: usize, due: Wire) -> Cursor
+    requires { ⌜ (4 ≤ stride) × (here .at + stride < 18446744073709551616) ⌝ }
+    ensures { λ r. ⌜ RowPassed (now (material .entry)) (here .at) stride x (due .0) (r .at) ⌝ }
 {
     if x == 0 {
         return here;
@@ -118,7 +119,7 @@ fn row_passed(material: &[u8], here: Cursor, rows: usize, x: usize, due: Wire) -
         return Cursor { at: 0 };
     }
     if is_row(material, here.at, due) {
-        return here.past(rows);
+        return here.past(stride);
     }
     Cursor { at: 0 }
 }
@@ -130,16 +131,16 @@ fn gate_tried(
     z: Sizes,
     here: Cursor,
     there: Cursor,
-    rows: usize,
+    stride: usize,
     tokens: &[u8],
     material: &[u8],
 ) -> Walk
-    requires { ⌜ (Few k z (k + 1)) × (rows ≡ rowsStored (getD (now material) 2 0)) ⌝ }
+    requires { ⌜ (Few k z (k + 1)) × (stride ≡ recordLength (schemeOf (getD (now material) 2 0))) ⌝ }
     ensures { λ r. ⌜ TriedLeads (now (tokens .entry)) (now (material .entry)) k z (here .at) (there .at) r ⌝ }
 {
     let next = k + 1;
     if next < z.q {
-        return go_to(0, next, z, there, rows, 0);
+        return go_to(0, next, z, there, stride, 0);
     }
     let len = tokens.len();
     let list = 16 * z.n;
@@ -148,17 +149,17 @@ fn gate_tried(
             k,
             z,
             here,
-            rows,
+            stride,
             Evaluated::Refused(Refusal::TokensLength(len)),
         );
     }
     match check_file(material, z) {
-        Ran::Refused(f) => ended(k, z, here, rows, Evaluated::Refused(f)),
+        Ran::Refused(f) => ended(k, z, here, stride, Evaluated::Refused(f)),
         Ran::Done => {
             if here.at == 0 {
-                return go_to(1, 0, z, Cursor::first(), rows, 0);
+                return go_to(1, 0, z, Cursor::first(), stride, 0);
             }
-            go_to(1, k, z, here, rows, 0)
+            go_to(1, k, z, here, stride, 0)
         }
     }
 }
@@ -172,7 +173,7 @@ pub fn try_gate(s: Walk, g: Gate, tokens: &[u8], material: &[u8]) -> Walk
     let z = s.z;
     let n = z.n;
     let here = s.here;
-    let rows = s.rows;
+    let stride = s.stride;
     let own = Wire((n + k + 1) as u16);
     match read_gate(own, g) {
         GateRead::Fine(x) => {
@@ -182,10 +183,10 @@ pub fn try_gate(s: Walk, g: Gate, tokens: &[u8], material: &[u8]) -> Walk
                 q: z.q,
                 p: z.p + x,
             };
-            let there = row_passed(material, here, rows, x, own);
-            gate_tried(k, counted, here, there, rows, tokens, material)
+            let there = row_passed(material, here, stride, x, own);
+            gate_tried(k, counted, here, there, stride, tokens, material)
         }
-        GateRead::Fault(f) => ended(k, z, here, rows, Evaluated::Refused(f)),
+        GateRead::Fault(f) => ended(k, z, here, stride, Evaluated::Refused(f)),
     }
 }
 
@@ -194,42 +195,48 @@ fn record_checked(
     k: usize,
     z: Sizes,
     there: Cursor,
-    rows: usize,
+    stride: usize,
     tokens: &[u8],
     material: &[u8],
     wires: &mut [u8],
 ) -> Walk
-    requires { ⌜ Checks (now tokens) (now material) k z rows (there .at) ⌝ }
+    requires { ⌜ Checks (now tokens) (now material) k z stride (there .at) ⌝ }
     ensures { λ r. ⌜ CheckedLeads (now (tokens .entry)) (now (material .entry)) k z (there .at) (now (wires .entry)) r (now (wires .exit)) ⌝ }
 {
     let next = k + 1;
     if next < z.q {
-        return go_to(1, next, z, there, rows, 0);
+        return go_to(1, next, z, there, stride, 0);
     }
     match check_last(material, z.m, there.at) {
-        Ran::Refused(f) => ended(k, z, there, rows, Evaluated::Refused(f)),
+        Ran::Refused(f) => ended(k, z, there, stride, Evaluated::Refused(f)),
         Ran::Done => {
             let bytes = 16 * (z.n + z.q);
             if wires.len() < bytes {
-                return ended(k, z, there, rows, Evaluated::Refused(Refusal::Room(bytes)));
+                return ended(
+                    k,
+                    z,
+                    there,
+                    stride,
+                    Evaluated::Refused(Refusal::Room(bytes)),
+                );
             }
             copy_front(tokens, wires);
-            go_to(2, 0, z, Cursor::first(), rows, 0)
+            go_to(2, 0, z, Cursor::first(), stride, 0)
         }
     }
 }
 
 // Pass 1 at gate g: 17.
 pub fn check_record(s: Walk, g: Gate, tokens: &[u8], material: &[u8], wires: &mut [u8]) -> Walk
-    requires { ⌜ Checks (now tokens) (now material) (s .k) (s .z) (s .rows) (s .here .at + charge (kindOf (g .code)) * (4 + 16 * s .rows)) ⌝ }
+    requires { ⌜ Checks (now tokens) (now material) (s .k) (s .z) (s .stride) (s .here .at + charge (kindOf (g .code)) * s .stride) ⌝ }
     ensures { λ r. ⌜ CheckLeads (now (tokens .entry)) (now (material .entry)) s g (now (wires .entry)) r (now (wires .exit)) ⌝ }
 {
     let k = s.k;
     let z = s.z;
     let here = s.here;
-    let rows = s.rows;
+    let stride = s.stride;
     if code_charge(g.code) == 0 {
-        return record_checked(k, z, here, rows, tokens, material, wires);
+        return record_checked(k, z, here, stride, tokens, material, wires);
     }
     let due = Wire((z.n + k + 1) as u16);
     if !is_row(material, here.at, due) {
@@ -237,24 +244,24 @@ pub fn check_record(s: Walk, g: Gate, tokens: &[u8], material: &[u8], wires: &mu
             k,
             z,
             here,
-            rows,
+            stride,
             Evaluated::Refused(Refusal::RowRecord(due)),
         );
     }
-    let there = here.past(rows);
-    record_checked(k, z, there, rows, tokens, material, wires)
+    let there = here.past(stride);
+    record_checked(k, z, there, stride, tokens, material, wires)
 }
 
 // The token of gate k is written, and so many calls of π are made with it. After the last they are the answer.
-fn token_written(k: usize, z: Sizes, there: Cursor, rows: usize, calls: usize) -> Walk
+fn token_written(k: usize, z: Sizes, there: Cursor, stride: usize, calls: usize) -> Walk
     requires { ⌜ Few k z (z .q) ⌝ }
-    ensures { λ r. ⌜ Onward k z there rows calls r ⌝ }
+    ensures { λ r. ⌜ Onward k z there stride calls r ⌝ }
 {
     let next = k + 1;
     if next < z.q {
-        return go_to(2, next, z, there, rows, calls);
+        return go_to(2, next, z, there, stride, calls);
     }
-    ended(k, z, there, rows, Evaluated::Done(calls))
+    ended(k, z, there, stride, Evaluated::Done(calls))
 }
 
 // Pass 2 at gate g: its token, and its calls of π are added.
@@ -271,15 +278,15 @@ pub fn write_next(
 {
     let k = s.k;
     let z = s.z;
-    let rows = s.rows;
+    let stride = s.stride;
     let calls = s.calls;
     let scheme = material[2];
     if code_charge(g.code) == 0 {
         write_free(z.n, k, g, wires);
-        return token_written(k, z, s.here, rows, calls);
+        return token_written(k, z, s.here, stride, calls);
     }
     let made = write_charged(t, w, scheme, z.n, k, g, material, s.here, wires);
-    token_written(k, z, s.here.past(rows), rows, calls + made)
+    token_written(k, z, s.here.past(stride), stride, calls + made)
 }
 
 // The answer at the end of the walk.

@@ -1,14 +1,14 @@
 // The walk over the gates (01, Operations, evaluate): the tokens of all wires, in the buffer that they are read from.
 // Whatever enciphers is lent the T-tables t and the schedule w of π's fixed key.
 ghost use mathlib.Core.Path.{_≡_};
-ghost use Prim.Native.Nat.{_+_, _*_};
+ghost use Prim.Native.Nat.{_+_};
 ghost use Rattle.aes.specs.Tables.{IsTTables};
 ghost use Rattle.model.specs.Aes.{keyExpansion, fixedKey};
 ghost use Rattle.model.specs.Circuit.{gateAt, kindOf, charge};
+ghost use Rattle.model.specs.Scheme.{recordLength};
 ghost use Rattle.model.specs.Garbling.{schemeOf};
-ghost use Rattle.evaluate.specs.Gate.{RecordRoom};
+ghost use Rattle.scheme.specs.Rows.{RecordRoom};
 ghost use Rattle.evaluate.specs.Walk.{Operands, FreeTokenIs, TokenIs, StepStart, StepIs, WalkStart, WalkedIs, WiresStart, WiresAre};
-use crate::gate::open_charged;
 use aes::fixed_schedule;
 use aes::t_tables;
 use block::load;
@@ -17,11 +17,12 @@ use buffer::copy_front;
 use circuit::code::code_charge;
 use circuit::code::code_takes;
 use circuit::gates::gate_at;
+use material::record_length;
 use material::records::Cursor;
-use material::rows_stored;
 use model::Gate;
 use model::Wire;
 use scheme::free_token;
+use scheme::open_charged;
 
 // Gate k, from 0, of a circuit of n inputs is g, and is free: its token, which needs no material, is written after those of the wires
 // before it, from the operands that the gate takes. π is not called.
@@ -54,7 +55,7 @@ pub fn write_charged(
     requires { ⌜ Operands n k g (now wires) ⌝ }
     requires { ⌜ RecordRoom scheme (here .at) (now material) ⌝ }
     requires { ⌜ charge (kindOf (g .code)) ≡ 1 ⌝ }
-    ensures { λ r. ⌜ TokenIs scheme n k g (now (material .entry)) (here .at) (now (wires .entry)) (here .at + (4 + 16 * schemeOf scheme .stored)) r (now (wires .exit)) ⌝ }
+    ensures { λ r. ⌜ TokenIs scheme n k g (now (material .entry)) (here .at) (now (wires .entry)) (here .at + recordLength (schemeOf scheme)) r (now (wires .exit)) ⌝ }
 {
     let place = 16 * (n + k);
     let own = Wire((n + k + 1) as u16);
@@ -94,7 +95,7 @@ fn write_token_at(
         return s;
     }
     let made = write_charged(t, w, scheme, n, k, g, material, s.here, wires);
-    let here = s.here.past(rows_stored(scheme));
+    let here = s.here.past(record_length(scheme));
     let calls = s.calls + made;
     SoFar { here, calls }
 }

@@ -1,6 +1,5 @@
 -- The gates and the last record: what the last record starts from, and the material whole. Assumes nothing.
 use Prim.Native.Nat.{ℕ, _+_, _*_, _≤_}
-use native.Mathlib.Nat.{mul-le-mul}
 use native.Mathlib.Omega.{arith}
 use mathlib.Core.Path.{_≡_, ap, _∙_}
 use mathlib.Core.List.{List, _∷_, _++_, map}
@@ -13,21 +12,21 @@ use Rattle.model.specs.Circuit.{charges, circuitOf, inputs, outputs, gates, gat
 use Rattle.model.specs.Aes.{Block, block}
 use Rattle.model.specs.Tokens.{garblingOf, colour, inputZeros}
 use Rattle.model.specs.Garbling.{zeroTokens}
-use Rattle.model.specs.Material.{joinBlocks, header, records, lastRecord, material}
+use Rattle.model.specs.Material.{joinBlocks, lastStart, materialLength, header, records, lastRecord, material}
 use Rattle.model.specs.Evaluation.{tokenAt}
 use Rattle.model.specs.Operations.{sizesOf}
 use Rattle.model.proofs.Lists.{tabulate-length}
 use Rattle.model.proofs.Circuits.{charges-le}
+use Rattle.model.proofs.Places.{length-last}
 use Rattle.model.proofs.Buffers.{over-length, over-put}
 use Rattle.model.proofs.Blocks.{join-length, token-at-front}
 use Rattle.model.proofs.Outputs.{outputs-many}
 use Rattle.model.proofs.Accepted.{HeaderHolds, map-within, accepted-header, accepted-circuit}
 use Rattle.model.proofs.Lengths.{zero-tokens-blocks, header-length, records-length, last-length}
 use Rattle.garble.specs.Walk.{WalkOf, GatesIs, ColoursStart, BodyStart, BodyIs}
-use Rattle.garble.proofs.ChargedLaws.{rows-within}
 
 module _ (c seed : List ℕ) (scheme n r : ℕ) (R : Block) (w : List ℕ) (walk : WalkOf c seed scheme n r R w)
-    (s : Sizes) (m z : List ℕ) (start : BodyStart c seed scheme r s m z) where
+    (s : Sizes) (m z : List ℕ) (start : BodyStart c seed scheme s m z) where
   limits : HeaderHolds c
   limits = accepted-header c (walk .accepted)
 
@@ -40,26 +39,8 @@ module _ (c seed : List ℕ) (scheme n r : ℕ) (R : Block) (w : List ℕ) (walk
   is-p = ap (λ (x : Sizes). x .p) (start .sizes)
 
   -- nothing overflows
-  record-small : 4 + 16 * r ≤ 68
-  record-small = let l = rows-within scheme in omega (arith, walk .is-rows, l .1)
-
-  few : s .p ≤ 65535
-  few = omega (arith, is-p, charges-le (tabulate (gates c) (gateAt c)), tabulate-length (gates c) (gateAt c), limits .sizes .sum)
-
-  pub rows-fit : Fits w64 (16 * r)
-  rows-fit = omega (arith, record-small)
-
-  pub record-fits : Fits w64 (4 + 16 * r)
-  record-fits = omega (arith, record-small)
-
-  records-small : s .p * (4 + 16 * r) ≤ 65535 * 68
-  records-small = mul-le-mul few record-small
-
-  pub records-fit : Fits w64 (s .p * (4 + 16 * r))
-  records-fit = omega (arith, records-small)
-
-  pub place-fits : Fits w64 (9 + s .p * (4 + 16 * r))
-  place-fits = omega (arith, records-small)
+  pub few-charged : s .p ≤ 65535
+  few-charged = omega (arith, is-p, charges-le (tabulate (gates c) (gateAt c)), tabulate-length (gates c) (gateAt c), limits .sizes .sum)
 
   -- ---- after the gates
   module _ (m1 z1 : List ℕ) (calls : ℕ) (done : GatesIs c seed scheme m z m1 z1 calls) where
@@ -74,25 +55,26 @@ module _ (c seed : List ℕ) (scheme n r : ℕ) (R : Block) (w : List ℕ) (walk
     so-far : List ℕ
     so-far = header (garblingOf c seed scheme) ++ records (garblingOf c seed scheme) (circuitOf c .gates) (inputZeros (garblingOf c seed scheme))
 
-    so-long : length so-far ≡ 9 + s .p * (4 + 16 * r)
-    unfolding so-far circuitOf
+    so-long : length so-far ≡ lastStart scheme (s .p)
+    unfolding so-far circuitOf lastStart
     so-long =
         length-append (header (garblingOf c seed scheme)) _
-        ∙ rw (header-length (garblingOf c seed scheme), records-length (garblingOf c seed scheme) (tabulate (gates c) (gateAt c)) (inputZeros (garblingOf c seed scheme)), is-p, walk .is-rows)
+        ∙ rw (header-length (garblingOf c seed scheme), records-length (garblingOf c seed scheme) (tabulate (gates c) (gateAt c)) (inputZeros (garblingOf c seed scheme)), is-p)
 
-    file-room : 11 + s .m + s .p * (4 + 16 * r) ≤ length m
-    file-room = rw (is-m, is-p) (start .gates-start .file-room)
+    file-room : lastStart scheme (s .p) + 2 + s .m ≤ length m
+    unfolding circuitOf
+    file-room = rw (← length-last scheme (s .m) (s .p), is-m, is-p) (start .gates-start .file-room)
 
     material-same : length m1 ≡ length m
     unfolding so-far
     material-same = ap length (done .material-left) ∙ over-length so-far m (omega (arith, so-long, file-room))
 
-    pub body-last : ColoursStart c s z1 m1 (9 + s .p * (4 + 16 * r) + 2)
-    body-last = record {
+    pub body-last : (at : ℕ) → at ≡ lastStart scheme (s .p) → ColoursStart c s z1 m1 (at + 2)
+    body-last at is-at = record {
       accepted = walk .accepted;
       sizes = start .sizes;
       tokens = rw zeros-same (start .gates-start .wires-room);
-      room = omega (arith, material-same, file-room);
+      room = omega (arith, is-at, material-same, file-room);
     }
 
     -- the colours shown are those of the outputs' zero tokens
@@ -105,15 +87,15 @@ module _ (c seed : List ℕ) (scheme n r : ℕ) (R : Block) (w : List ℕ) (walk
     unfolding lastRecord
     last-is = ap (λ (l : List ℕ). 0x47 ∷ 0x44 ∷ l) (map-within _ _ (accepted-circuit c (walk .accepted) .outputs-within) shown)
 
-    pub body-done : (m2 : List ℕ) → m2 ≡ put m1 (9 + s .p * (4 + 16 * r)) (0x47 ∷ 0x44 ∷ map (λ k. colour (tokenAt z1 k)) (circuitOf c .outputs))
+    pub body-done : (at : ℕ) → at ≡ lastStart scheme (s .p) → (m2 : List ℕ) → m2 ≡ put m1 at (0x47 ∷ 0x44 ∷ map (λ k. colour (tokenAt z1 k)) (circuitOf c .outputs))
         → BodyIs c seed scheme m z m2 z1 calls
     unfolding so-far material
-    body-done m2 e = record {
+    body-done at is-at m2 e = record {
       zeros-left = done .zeros-left;
       material-left =
           e
-          ∙ rw (last-is, done .material-left)
-          (over-put so-far m (lastRecord (garblingOf c seed scheme)) (9 + s .p * (4 + 16 * r)) so-long
+          ∙ rw (is-at, last-is, done .material-left)
+          (over-put so-far m (lastRecord (garblingOf c seed scheme)) (lastStart scheme (s .p)) so-long
           (omega (arith, file-room, last-length (garblingOf c seed scheme), outputs-many c, is-m)));
       calls-made = done .calls-made;
     }

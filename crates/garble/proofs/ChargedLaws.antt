@@ -1,5 +1,5 @@
 -- A charged gate in the buffers. Assumes nothing.
-use Prim.Native.Nat.{ℕ, _≤_}
+use Prim.Native.Nat.{ℕ}
 use native.Mathlib.Omega.{arith}
 use mathlib.Core.Path.{_≡_, refl, sym, _∙_}
 use mathlib.Core.List.{List}
@@ -9,12 +9,13 @@ use lib.Dec.{eqb}
 use Rattle.model.specs.Bytes.{put}
 use Rattle.model.specs.Aes.{Block, block, cipher}
 use Rattle.model.specs.Scheme as Model
-use Rattle.model.specs.Gax.{dualKey, valueAt, sealed, rowAt, gax}
+use Rattle.model.specs.Gax.{dualKey, valueAt, sealed, rowAt}
 use Rattle.model.specs.Gaxr.{reducedZero, gaxr}
 use Rattle.model.specs.HalfGates.{hash, halfA, halfB, rowG, rowE, joined, halfZero, half}
 use Rattle.model.specs.Garbling.{schemeOf}
 use Rattle.model.specs.Calls.{garbleAsks}
 use Rattle.model.proofs.Calls.{garble-asks-four}
+use Rattle.model.proofs.Places.{stored-low, stored-high}
 use Rattle.scheme.specs.Garbled.{site, GarbledIs}
 use Rattle.scheme.specs.declared.Site.{Site}
 use Rattle.scheme.specs.declared.GarbledGate.{GarbledGate}
@@ -90,21 +91,14 @@ module _ (w : List ℕ) (k g : ℕ) (f : Block) (R : Block) (code : ℕ) (xa xb 
 
 -- ---- garble_charged
 
--- how many rows a scheme stores
-pub rows-within : (k : ℕ) → (2 ≤ schemeOf k .stored) × (schemeOf k .stored ≤ 4)
-unfolding schemeOf gax gaxr half
-rows-within k = go (eqb k 1) (eqb k 2)
-  where
-    go : (a b : Bool) → (2 ≤ cond a (gax dualKey) (cond b (gaxr dualKey) (half hash)) .stored) × (cond a (gax dualKey) (cond b (gaxr dualKey) (half hash)) .stored ≤ 4)
-    go true b = (omega arith, omega arith)
-    go false true = (omega arith, omega arith)
-    go false false = (omega arith, omega arith)
-
 module _ (scheme stored code u v x : ℕ) (m : List ℕ) (at : ℕ) (z : List ℕ) (slot : ℕ) (start : ChargedStart scheme stored code u v x m at z slot) where
   pub charged-record : RecordRoom at stored m
-  charged-record =
-      let l = rows-within scheme in
-      record { low = omega (arith, start .is-stored, l .0); high = omega (arith, start .is-stored, l .1); room = start .record-room }
+  unfolding Model.recordLength
+  charged-record = record {
+    low = omega (arith, start .is-stored, stored-low scheme);
+    high = omega (arith, start .is-stored, stored-high scheme);
+    room = rw (start .is-stored) (omega (arith, start .record-room));
+  }
 
   module _ (w : List ℕ) (st : Site) (fresh : FreshIs w scheme (st .g .0) (st .fresh .bytes)) (made : GarbledGate) (is : GarbledIs (schemeOf scheme) (garbleAsks scheme (site st)) (site st) made)
       (m′ z′ : List ℕ) where

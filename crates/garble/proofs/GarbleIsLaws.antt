@@ -36,8 +36,7 @@ garble-fine c seed scheme m z o e =
       accepted = g .0;
       sizes = refl;
       seed-length = eqb-true _ _ (not-false _ (refuse-fine _ _ _ (g .1)));
-      scheme-low = leb-true _ _ (h .0);
-      scheme-high = leb-true _ _ (h .1);
+      known = record { low = leb-true _ _ (h .0); high = leb-true _ _ (h .1) };
       file-room = ltb-false _ _ (refuse-fine _ _ _ (d .1));
       wires-room = ltb-false _ _ (refuse-fine _ _ _ (b .1));
       inputs-room = ltb-false _ _ (refuse-fine _ _ _ (a .1));

@@ -1,6 +1,6 @@
 -- One gate of the walk: what it starts from, by its kind, and what it leaves. Assumes nothing.
 use Prim.Native.Nat.{ℕ, suc, _+_, _*_, _-_, _≤_, _<_}
-use native.Mathlib.Nat.{one-mul, zero-mul, add-mul, add-zero, mul-le-mul, mul-le-mul-right}
+use native.Mathlib.Nat.{one-mul, zero-mul, add-zero}
 use native.Mathlib.Omega.{arith}
 use mathlib.Core.Path.{_≡_, sym, ap, _∙_}
 use mathlib.Core.List.{List}
@@ -8,15 +8,17 @@ use lib.ListN.{length, drop, take-append-drop}
 use Rattle.model.specs.declared.Truth.{Truth}
 use Rattle.model.specs.declared.Kind as Kinds
 use Rattle.model.specs.Bytes.{tabulate, put}
-use Rattle.model.specs.Circuit.{value, Kind, charged, free, refused, kindOf, charges, circuitOf, inputs, gates, gateAt, gateWire, wire}
+use Rattle.model.specs.Circuit.{value, Kind, charged, free, refused, kindOf, charges, circuitOf, inputs, outputs, gates, gateAt, gateWire, wire}
 use Rattle.model.specs.Aes.{Block, block, aes}
 use Rattle.model.specs.Tokens.{Garbling, garblingOf, seedBlock, freeZero}
-use Rattle.model.specs.Garbling.{siteOf, zeroAt, zeroStep}
+use Rattle.model.specs.Scheme.{recordLength}
+use Rattle.model.specs.Garbling.{schemeOf, siteOf, zeroAt, zeroStep}
 use Rattle.model.specs.Material.{recordOf}
 use Rattle.model.specs.Evaluation.{tokenAt}
 use Rattle.model.specs.Calls.{garbleCallsAt}
 use Rattle.model.proofs.Lists.{tabulate-length}
-use Rattle.model.proofs.Circuits.{charges-le, charges-among}
+use Rattle.model.proofs.Circuits.{charges-le}
+use Rattle.model.proofs.Places.{length-last, last-high, record-fits}
 use Rattle.model.proofs.Buffers.{put-none}
 use Rattle.model.proofs.Codes.{Used, used-charged, used-free, FreeTable, code-means}
 use Rattle.model.proofs.Bits.{Bit, b0, b1}
@@ -26,7 +28,6 @@ use Rattle.model.proofs.Accepted.{GateHolds, accepted-header, accepted-gate}
 use Rattle.circuit.specs.Answers.{meaning}
 use Rattle.garble.specs.Walk.{zerosTo, siteAt, WalkOf, OperandsStart, GateInIs, StepStart, StepIs, ChargedStart, ChargedIs}
 use Rattle.garble.specs.declared.records.GateIn.{GateIn}
-use Rattle.garble.proofs.ChargedLaws.{rows-within}
 
 bit-low : {x : ℕ} → Bit x → x ≤ 1
 bit-low b0 = omega arith
@@ -59,17 +60,16 @@ module _ (c seed : List ℕ) (scheme n r : ℕ) (R : Block) (w : List ℕ) (walk
   unfolding zerosTo circuitOf
   zeros-many k = rw tabulate-length at (zeros-blocks (garblingOf c seed scheme) (tabulate k (gateAt c)) (input-zeros-blocks (garblingOf c seed scheme)))
 
-  module _ (k at : ℕ) (m z : List ℕ) (start : StepStart c seed scheme r k at m z) where
+  module _ (k at : ℕ) (m z : List ℕ) (start : StepStart c seed scheme k at m z) where
     pub step-operands : OperandsStart c n k z
     step-operands = record { accepted = walk .accepted; is-n = walk .is-n; more = start .more; room = start .wires-room }
 
     -- no place of a record overflows
-    pub step-small : at + 4 + 16 * r ≤ 5000000
+    pub step-small : at ≤ 9 + 65535 * 68
     step-small =
-        let l = rows-within scheme in
-        let a : charges (tabulate k (gateAt c)) ≤ 65535 = omega (arith, charges-le (tabulate k (gateAt c)), tabulate-length k (gateAt c), start .more, accepted-header c (walk .accepted) .sizes .sum) in
-        let b : 4 + 16 * r ≤ 68 = omega (arith, walk .is-rows, l .1) in
-        omega (arith, start .is-at, mul-le-mul a b)
+        rw (start .is-at)
+        (last-high scheme (charges (tabulate k (gateAt c)))
+        (omega (arith, charges-le (tabulate k (gateAt c)), tabulate-length k (gateAt c), start .more, accepted-header c (walk .accepted) .sizes .sum)))
 
     holds : GateHolds (gateWire (inputs c) k) (gateAt c k)
     holds = accepted-gate c k (walk .accepted) (start .more)
@@ -106,35 +106,28 @@ module _ (c seed : List ℕ) (scheme n r : ℕ) (R : Block) (w : List ℕ) (walk
           charged-is : kindOf (gateAt c k .code) ≡ charged (u .0) (v .0) (x .0)
           charged-is = code-kind ∙ ap meaning e
 
-          one-more : charges (tabulate k (gateAt c)) + 1 ≤ charges (tabulate (gates c) (gateAt c))
-          one-more = let h = charges-among (gateAt c) k (gates c) (start .more) in rw charged-is at h
-
-          -- its record fits
-          record-fits : at + 4 + 16 * r ≤ length m
-          record-fits =
-              let p = charges (tabulate k (gateAt c)) in
-              let q = charges (tabulate (gates c) (gateAt c)) in
-              let l : (p + 1) * (4 + 16 * r) ≤ q * (4 + 16 * r) = mul-le-mul-right (4 + 16 * r) one-more in
-              let e : (p + 1) * (4 + 16 * r) ≡ p * (4 + 16 * r) + (4 + 16 * r) = add-mul p 1 (4 + 16 * r) ∙ ap (λ (y : ℕ). p * (4 + 16 * r) + y) (one-mul (4 + 16 * r)) in
-              omega (arith, l, e, start .is-at, start .file-room)
+          room : at + recordLength (schemeOf scheme) ≤ length m
+          unfolding circuitOf
+          room =
+              let fits = rw charged-is at (record-fits scheme (gateAt c) k (gates c) (start .more)) in
+              omega (arith, fits, start .is-at, start .file-room, length-last scheme (outputs c) (charges (tabulate (gates c) (gateAt c))))
 
           pub step-charged-start : ChargedStart scheme r (g .code) (u .0) (v .0) (x .0) m at z (16 * (n + k))
           step-charged-start = record {
-            scheme-low = walk .scheme-low;
-            scheme-high = walk .scheme-high;
+            known = walk .known;
             is-stored = walk .is-rows;
             is-charged = ap kindOf (is-g .is-code) ∙ charged-is;
-            record-room = record-fits;
+            record-room = room;
             slot-room = omega (arith, start .more, start .wires-room, walk .is-n);
           }
 
-          pub step-charged : (m′ z′ : List ℕ) (calls : ℕ)
+          pub step-charged : (bytes : ℕ) → bytes ≡ recordLength (schemeOf scheme) → (m′ z′ : List ℕ) (calls : ℕ)
               → ChargedIs scheme (siteAt w R (g .own .0) (g .code) (g .xa .bytes) (g .xb .bytes)) m at z (16 * (n + k)) m′ z′ calls
-              → StepIs c seed scheme r k at m z (at + 4 + 16 * r) calls m′ z′
-          step-charged m′ z′ calls done = record {
+              → StepIs c seed scheme k at m z (at + bytes) calls m′ z′
+          step-charged bytes is-bytes m′ z′ calls done = record {
             zeros-left = done .zeros-left ∙ rw (walk .is-n, site-is) (unfold zeroStep zeroAt in (rw charged-is));
             material-left = done .material-left ∙ rw site-is (unfold recordOf in (rw charged-is));
-            is-next = rw (charged-is, one-mul) (omega arith);
+            is-next = rw (charged-is, one-mul, is-bytes);
             calls-made = done .calls-made ∙ rw site-is (unfold garbleCallsAt in (rw charged-is));
           }
 
@@ -155,7 +148,7 @@ module _ (c seed : List ℕ) (scheme n r : ℕ) (R : Block) (w : List ℕ) (walk
           pub step-slot : 16 * (n + k) + 16 ≤ length z
           step-slot = omega (arith, start .more, start .wires-room, walk .is-n)
 
-          pub step-free : (x z′ : List ℕ) → x ≡ freeZero (p .0) (q .0) (d .0) R (g .xa .bytes) (g .xb .bytes) → z′ ≡ put z (16 * (n + k)) x → StepIs c seed scheme r k at m z at 0 m z′
+          pub step-free : (x z′ : List ℕ) → x ≡ freeZero (p .0) (q .0) (d .0) R (g .xa .bytes) (g .xb .bytes) → z′ ≡ put z (16 * (n + k)) x → StepIs c seed scheme k at m z at 0 m z′
           step-free x z′ is-x is-z = record {
             zeros-left = is-z ∙ rw (walk .is-n, is-x) (unfold zeroStep zeroAt siteOf in (rw (free-is, walk .is-offset, xa-is, xb-is)));
             material-left = put-none m at ∙ unfold recordOf in (rw free-is);
@@ -164,5 +157,5 @@ module _ (c seed : List ℕ) (scheme n r : ℕ) (R : Block) (w : List ℕ) (walk
           }
 
         -- ---- no other gate is accepted
-        pub step-refused : kind ≡ Kinds.Kind.Refused → StepIs c seed scheme r k at m z at 0 m z
+        pub step-refused : kind ≡ Kinds.Kind.Refused → StepIs c seed scheme k at m z at 0 m z
         step-refused e = absurd (not-refused _ (holds .used) (code-kind ∙ ap meaning e))

@@ -1,7 +1,6 @@
 -- The walk over the gates: its invariant, its turn and its end. Assumes nothing.
 use Prim.Native.Nat.{ℕ, _+_, _*_, _≤_, _<_}
 use native.Mathlib.Numerals.{add-one}
-use native.Mathlib.Nat.{add-mul, mul-le-mul-right}
 use native.Mathlib.Omega.{arith}
 use mathlib.Core.Path.{_≡_, refl, sym, ap, ap₂, _∙_}
 use mathlib.Core.List.{List, _++_, append-assoc, append-nil}
@@ -10,14 +9,16 @@ use lib.Seq.{take-at}
 use mir.Syntax.{w64}
 use mir.Val.{Fits}
 use Rattle.model.specs.Bytes.{tabulate, over}
-use Rattle.model.specs.Circuit.{kindOf, charge, charges, circuitOf, inputs, gates, gateAt, wires}
+use Rattle.model.specs.Circuit.{kindOf, charge, charges, circuitOf, inputs, outputs, gates, gateAt, wires}
 use Rattle.model.specs.Aes.{Block}
 use Rattle.model.specs.Tokens.{garblingOf, inputZeros}
-use Rattle.model.specs.Garbling.{siteOf, zeroStep, zeroTokens}
-use Rattle.model.specs.Material.{joinBlocks, header, recordOf, records}
+use Rattle.model.specs.Scheme.{recordLength}
+use Rattle.model.specs.Garbling.{schemeOf, siteOf, zeroStep, zeroTokens}
+use Rattle.model.specs.Material.{joinBlocks, lastStart, header, recordOf, records}
 use Rattle.model.specs.Calls.{garbleCalls}
 use Rattle.model.proofs.Lists.{tabulate-snoc, tabulate-length}
-use Rattle.model.proofs.Circuits.{charge-le, charges-le, charges-snoc, charges-among, wires-snoc}
+use Rattle.model.proofs.Circuits.{charge-le, charges-le, wires-snoc}
+use Rattle.model.proofs.Places.{length-last, start-first, start-next, record-fits}
 use Rattle.model.proofs.Buffers.{over-put, put-length}
 use Rattle.model.proofs.Blocks.{join-length}
 use Rattle.model.proofs.Lengths.{input-zeros-blocks, zero-step-wide, header-length, record-length, records-length}
@@ -33,9 +34,9 @@ recordsTo : List ℕ → List ℕ → ℕ → ℕ → List ℕ
 recordsTo c seed scheme k = records (garblingOf c seed scheme) (tabulate k (gateAt c)) (inputZeros (garblingOf c seed scheme))
 
 -- k gates are done, by so many calls of π: m and z were m₀ and z₀ at the start
-pub record Walking (c seed : List ℕ) (scheme r q : ℕ) (m₀ z₀ : List ℕ) (k at calls : ℕ) (m z : List ℕ) : Type 0 where
+pub record Walking (c seed : List ℕ) (scheme q : ℕ) (m₀ z₀ : List ℕ) (k at calls : ℕ) (m z : List ℕ) : Type 0 where
   pub within : k ≤ q
-  pub is-at : at ≡ 9 + charges (tabulate k (gateAt c)) * (4 + 16 * r)
+  pub is-at : at ≡ lastStart scheme (charges (tabulate k (gateAt c)))
   pub material-length : length m ≡ length m₀
   pub zeros-length : length z ≡ length z₀
   material : m ≡ over (header (garblingOf c seed scheme) ++ recordsTo c seed scheme k) m₀
@@ -43,17 +44,17 @@ pub record Walking (c seed : List ℕ) (scheme r q : ℕ) (m₀ z₀ : List ℕ)
   counted : calls ≡ garbleCalls (garblingOf c seed scheme) (tabulate k (gateAt c)) (inputZeros (garblingOf c seed scheme))
 
 module _ (c seed : List ℕ) (scheme n r : ℕ) (R : Block) (w : List ℕ) (walk : WalkOf c seed scheme n r R w)
-    (q : ℕ) (m₀ z₀ : List ℕ) (start : GatesStart c seed scheme r q m₀ z₀) where
+    (q : ℕ) (m₀ z₀ : List ℕ) (start : GatesStart c seed scheme q m₀ z₀) where
   -- a buffer whose front is p
   front : (p o : List ℕ) (k : ℕ) → length p ≡ k → take k o ≡ p → o ≡ over p o
   unfolding over
   front p o k l e = rw l (sym (ap (λ (x : List ℕ). x ++ drop k o) (sym e) ∙ take-append-drop k o))
 
-  pub walk-start : Walking c seed scheme r q m₀ z₀ 0 9 0 m₀ z₀
+  pub walk-start : Walking c seed scheme q m₀ z₀ 0 9 0 m₀ z₀
   unfolding recordsTo records zerosTo wires charges circuitOf garbleCalls
   walk-start = record {
     within = omega arith;
-    is-at = omega arith;
+    is-at = sym (start-first scheme (gateAt c));
     material-length = refl;
     zeros-length = refl;
     material = rw append-nil (front (header (garblingOf c seed scheme)) m₀ 9 (header-length (garblingOf c seed scheme)) (start .header-front));
@@ -63,7 +64,7 @@ module _ (c seed : List ℕ) (scheme n r : ℕ) (R : Block) (w : List ℕ) (walk
     counted = refl;
   }
 
-  module _ (k at calls : ℕ) (m z : List ℕ) (inv : Walking c seed scheme r q m₀ z₀ k at calls m z) where
+  module _ (k at calls : ℕ) (m z : List ℕ) (inv : Walking c seed scheme q m₀ z₀ k at calls m z) where
     pub walk-end : q ≤ k → GatesIs c seed scheme m₀ z₀ m z calls
     unfolding recordsTo zerosTo zeroTokens circuitOf
     walk-end h =
@@ -73,15 +74,15 @@ module _ (c seed : List ℕ) (scheme n r : ℕ) (R : Block) (w : List ℕ) (walk
     module _ (more : k < q) where
       -- the bytes of the material so far
       so-long : length (header (garblingOf c seed scheme) ++ recordsTo c seed scheme k) ≡ at
-      unfolding recordsTo
+      unfolding recordsTo lastStart
       so-long =
           length-append (header (garblingOf c seed scheme)) _
-          ∙ rw (header-length (garblingOf c seed scheme), records-length (garblingOf c seed scheme) (tabulate k (gateAt c)) (inputZeros (garblingOf c seed scheme)), inv .is-at, walk .is-rows)
+          ∙ rw (header-length (garblingOf c seed scheme), records-length (garblingOf c seed scheme) (tabulate k (gateAt c)) (inputZeros (garblingOf c seed scheme)), inv .is-at)
 
       below : k < gates c
       below = omega (arith, start .is-q)
 
-      pub walk-step : StepStart c seed scheme r k at m z
+      pub walk-step : StepStart c seed scheme k at m z
       unfolding over
       walk-step = record {
         more = below;
@@ -92,14 +93,18 @@ module _ (c seed : List ℕ) (scheme n r : ℕ) (R : Block) (w : List ℕ) (walk
       }
 
       -- the record of gate k fits
-      record-room : at + charge (kindOf (gateAt c k .code)) * (4 + 16 * r) ≤ length m₀
+      record-room : at + charge (kindOf (gateAt c k .code)) * recordLength (schemeOf scheme) ≤ length m₀
+      unfolding circuitOf
       record-room =
-          let p = charges (tabulate k (gateAt c)) in
-          let d = charge (kindOf (gateAt c k .code)) in
-          let l : (p + d) * (4 + 16 * r) ≤ charges (tabulate (gates c) (gateAt c)) * (4 + 16 * r) = mul-le-mul-right (4 + 16 * r) (charges-among (gateAt c) k (gates c) below) in
-          omega (arith, l, add-mul p d (4 + 16 * r), inv .is-at, start .file-room)
+          omega (
+            arith,
+            record-fits scheme (gateAt c) k (gates c) below,
+            length-last scheme (outputs c) (charges (tabulate (gates c) (gateAt c))),
+            inv .is-at,
+            start .file-room,
+          )
 
-      module _ (next made : ℕ) (m′ z′ : List ℕ) (done : StepIs c seed scheme r k at m z next made m′ z′) where
+      module _ (next made : ℕ) (m′ z′ : List ℕ) (done : StepIs c seed scheme k at m z next made m′ z′) where
         -- no count overflows
         pub walk-calls : Fits w64 (calls + made)
         walk-calls =
@@ -120,9 +125,9 @@ module _ (c seed : List ℕ) (scheme n r : ℕ) (R : Block) (w : List ℕ) (walk
         piece : List ℕ
         piece = recordOf (garblingOf c seed scheme) (kindOf (gateAt c k .code)) (siteOf (garblingOf c seed scheme) (zerosTo c seed scheme k) (gateAt c k))
 
-        piece-long : length piece ≡ charge (kindOf (gateAt c k .code)) * (4 + 16 * r)
+        piece-long : length piece ≡ charge (kindOf (gateAt c k .code)) * recordLength (schemeOf scheme)
         unfolding piece
-        piece-long = record-length (garblingOf c seed scheme) (kindOf (gateAt c k .code)) _ ∙ rw (walk .is-rows)
+        piece-long = record-length (garblingOf c seed scheme) (kindOf (gateAt c k .code)) _
 
         material-next : m′ ≡ over (header (garblingOf c seed scheme) ++ recordsTo c seed scheme (k + 1)) m₀
         unfolding piece recordsTo zerosTo
@@ -152,13 +157,11 @@ module _ (c seed : List ℕ) (scheme n r : ℕ) (R : Block) (w : List ℕ) (walk
             rw (add-one, tabulate-snoc k (gateAt c), garble-calls-snoc (garblingOf c seed scheme) (tabulate k (gateAt c)) (gateAt c k) (inputZeros (garblingOf c seed scheme)))
             (ap₂ (λ (x y : ℕ). x + y) (inv .counted) (done .calls-made))
 
-        pub walk-turn : Walking c seed scheme r q m₀ z₀ (k + 1) next (calls + made) m′ z′
+        pub walk-turn : Walking c seed scheme q m₀ z₀ (k + 1) next (calls + made) m′ z′
         unfolding piece token
         walk-turn = record {
           within = omega arith;
-          is-at =
-              done .is-next
-              ∙ rw (add-one, tabulate-snoc k (gateAt c), charges-snoc, add-mul, inv .is-at) (omega arith);
+          is-at = done .is-next ∙ rw (inv .is-at) (sym (start-next scheme (gateAt c) k));
           material-length =
               ap length (done .material-left) ∙ put-length m at piece (omega (arith, piece-long, record-room, inv .material-length)) ∙ inv .material-length;
           zeros-length =

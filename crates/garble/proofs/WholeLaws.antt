@@ -11,13 +11,12 @@ use Rattle.model.specs.Circuit.{charges, circuitOf, inputs, outputs, gates}
 use Rattle.model.specs.Aes.{Block, block, cipher, keyExpansion, aes}
 use Rattle.model.specs.Tokens.{garblingOf, coloured, seedBlock, offset, inputZeros, oneToken}
 use Rattle.model.specs.Garbling.{schemeOf, zeroTokens, inputOnes}
-use Rattle.model.specs.Material.{joinBlocks, rowsStored, materialLength, header, material}
+use Rattle.model.specs.Material.{joinBlocks, materialLength, header, material}
 use Rattle.model.specs.Operations.{sizesOf}
 use Rattle.model.proofs.Lists.{tabulate-length, tabulate-map}
 use Rattle.model.proofs.Buffers.{over-length, over-over}
 use Rattle.model.proofs.Outputs.{outputs-many}
 use Rattle.model.proofs.Blocks.{join-length}
-use Rattle.model.proofs.Schemes.{rows-stored}
 use Rattle.model.proofs.Lengths.{input-zeros-blocks, zero-tokens-blocks, header-length, material-length}
 use Rattle.garble.specs.Walk.{WalkOf, FrontStart, FrontIs, BodyStart, BodyIs}
 use Rattle.garble.specs.Whole.{WholeStart, WholeIs}
@@ -45,7 +44,7 @@ module _ (c seed : List ℕ) (scheme : ℕ) (s : Sizes) (m z o : List ℕ) (star
 
   -- the key, its schedule, and the offset, as they were made
   module _ (k w b R : List ℕ) (stored : ℕ) (is-k : k ≡ take 16 (drop 0 seed)) (is-w : w ≡ keyExpansion k) (is-b : b ≡ cipher w (block 0)) (is-R : R ≡ coloured b)
-      (is-rows : stored ≡ rowsStored scheme) where
+      (is-rows : stored ≡ schemeOf scheme .stored) where
     schedule : w ≡ keyExpansion seed
     schedule = is-w ∙ ap keyExpansion (is-k ∙ take-all 16 seed (omega (arith, start .seed-length)))
 
@@ -53,16 +52,12 @@ module _ (c seed : List ℕ) (scheme : ℕ) (s : Sizes) (m z o : List ℕ) (star
     unfolding offset seedBlock aes
     offset-is = is-R ∙ ap coloured (is-b ∙ ap (λ (x : List ℕ). cipher x (block 0)) schedule)
 
-    rows-are : stored ≡ schemeOf scheme .stored
-    rows-are = is-rows ∙ sym (rows-stored scheme (start .scheme-low) (start .scheme-high))
-
     pub whole-walk : WalkOf c seed scheme (s .n) stored R w
     whole-walk = record {
       accepted = start .accepted;
-      scheme-low = start .scheme-low;
-      scheme-high = start .scheme-high;
+      known = start .known;
       is-n = is-n;
-      is-rows = rows-are;
+      is-rows = is-rows;
       is-offset = offset-is;
       is-schedule = schedule;
     }
@@ -97,13 +92,13 @@ module _ (c seed : List ℕ) (scheme : ℕ) (s : Sizes) (m z o : List ℕ) (star
       zeros-same : length z1 ≡ length z
       zeros-same = ap length zeros-are ∙ over-length (joinBlocks (inputZeros (garblingOf c seed scheme))) z (omega (arith, inputs-long, start .wires-room))
 
-      pub whole-body : BodyStart c seed scheme stored s m1 z1
-      unfolding over materialLength circuitOf
+      pub whole-body : BodyStart c seed scheme s m1 z1
+      unfolding over circuitOf
       whole-body = record {
         sizes = start .sizes;
         gates-start = record {
           is-q = is-q;
-          file-room = rw (material-same, is-rows) (start .file-room);
+          file-room = rw material-same (start .file-room);
           wires-room = rw zeros-same (start .wires-room);
           header-front = rw header-is (take-at (header (garblingOf c seed scheme)) _ 9 header-long);
           inputs-front = rw zeros-are (take-at (joinBlocks (inputZeros (garblingOf c seed scheme))) _ (16 * inputs c) inputs-long);
@@ -113,7 +108,7 @@ module _ (c seed : List ℕ) (scheme : ℕ) (s : Sizes) (m z o : List ℕ) (star
       -- the body as it was written
       module _ (m2 z2 : List ℕ) (calls : ℕ) (body : BodyIs c seed scheme m1 z1 m2 z2 calls) where
         material-long : length (material (garblingOf c seed scheme)) ≡ materialLength scheme (outputs c) (charges (circuitOf c .gates))
-        material-long = rw (outputs-many c) at (material-length (garblingOf c seed scheme) (start .scheme-low) (start .scheme-high))
+        material-long = rw (outputs-many c) at (material-length (garblingOf c seed scheme))
 
         header-within : 9 ≤ length (material (garblingOf c seed scheme))
         unfolding materialLength

@@ -8,9 +8,9 @@ use Rattle.model.specs.Bytes.{tabulate, over, put, two}
 use Rattle.model.specs.Circuit.{charged, charge, charges, kindOf, circuitOf, inputs, outputs, gates, gateAt, gateWire, wires}
 use Rattle.model.specs.Aes.{Block, block, cipher, keyExpansion}
 use Rattle.model.specs.Tokens.{garblingOf, offset, inputZeros}
-use Rattle.model.specs.Scheme.{Site}
-use Rattle.model.specs.Garbling.{schemeOf, siteOf, zeroStep, zeroTokens}
-use Rattle.model.specs.Material.{joinBlocks, header, recordOf, records, material}
+use Rattle.model.specs.Scheme.{Site, recordLength}
+use Rattle.model.specs.Garbling.{Known, schemeOf, siteOf, zeroStep, zeroTokens}
+use Rattle.model.specs.Material.{joinBlocks, lastStart, materialLength, header, recordOf, records, material}
 use Rattle.model.specs.Evaluation.{tokenAt}
 use Rattle.model.specs.Calls.{garbleAsks, garbleCallsAt, garbleCalls}
 use Rattle.model.specs.Refusals.{fine, circuitVerdict}
@@ -44,11 +44,10 @@ siteAt w R g code xa xb = record { R = R; fresh = cipher w (block g); g = g; cod
 
 -- a charged gate, of the pair u, v with its own value x; room for its record and its zero token
 pub record ChargedStart (scheme stored code u v x : ℕ) (m : List ℕ) (at : ℕ) (z : List ℕ) (slot : ℕ) : Type 0 where
-  pub scheme-low : 1 ≤ scheme
-  pub scheme-high : scheme ≤ 3
+  pub known : Known scheme
   pub is-stored : stored ≡ schemeOf scheme .stored
   pub is-charged : kindOf code ≡ charged u v x
-  pub record-room : at + 4 + 16 * stored ≤ length m
+  pub record-room : at + recordLength (schemeOf scheme) ≤ length m
   pub slot-room : slot + 16 ≤ length z
 
 -- what it leaves, and the calls of π made
@@ -60,8 +59,7 @@ pub record ChargedIs (scheme : ℕ) (s : Site) (m : List ℕ) (at : ℕ) (z : Li
 -- the garbling that the walk is of: n inputs, r rows for a charged gate, the offset R, and the schedule w of the seed
 pub record WalkOf (c seed : List ℕ) (scheme n r : ℕ) (R : Block) (w : List ℕ) : Type 0 where
   pub accepted : circuitVerdict c ≡ fine
-  pub scheme-low : 1 ≤ scheme
-  pub scheme-high : scheme ≤ 3
+  pub known : Known scheme
   pub is-n : n ≡ inputs c
   pub is-rows : r ≡ schemeOf scheme .stored
   pub is-offset : R ≡ offset (garblingOf c seed scheme)
@@ -82,24 +80,24 @@ pub record GateInIs (c : List ℕ) (n k : ℕ) (z : List ℕ) (g : GateIn) : Typ
   pub is-xb : g .xb .bytes ≡ tokenAt z (gateAt c k .b .0)
 
 -- gate k comes next, its record at `at`: m and z are the material and the zero tokens so far
-pub record StepStart (c seed : List ℕ) (scheme r k at : ℕ) (m z : List ℕ) : Type 0 where
+pub record StepStart (c seed : List ℕ) (scheme k at : ℕ) (m z : List ℕ) : Type 0 where
   pub more : k < gates c
-  pub is-at : at ≡ 9 + charges (tabulate k (gateAt c)) * (4 + 16 * r)
-  pub file-room : 11 + outputs c + charges (tabulate (gates c) (gateAt c)) * (4 + 16 * r) ≤ length m
+  pub is-at : at ≡ lastStart scheme (charges (tabulate k (gateAt c)))
+  pub file-room : materialLength scheme (outputs c) (charges (circuitOf c .gates)) ≤ length m
   pub wires-room : 16 * (inputs c + gates c) ≤ length z
   pub so-far : take (16 * (inputs c + k)) z ≡ joinBlocks (zerosTo c seed scheme k)
 
 -- what gate k leaves: m′ and z′ at exit, the place of the next record, and the calls of π made
-pub record StepIs (c seed : List ℕ) (scheme r k at : ℕ) (m z : List ℕ) (next calls : ℕ) (m′ z′ : List ℕ) : Type 0 where
+pub record StepIs (c seed : List ℕ) (scheme k at : ℕ) (m z : List ℕ) (next calls : ℕ) (m′ z′ : List ℕ) : Type 0 where
   pub zeros-left : z′ ≡ put z (16 * (inputs c + k)) (zeroStep (garblingOf c seed scheme) (zerosTo c seed scheme k) (gateAt c k))
   pub material-left : m′ ≡ put m at (recordOf (garblingOf c seed scheme) (kindOf (gateAt c k .code)) (siteOf (garblingOf c seed scheme) (zerosTo c seed scheme k) (gateAt c k)))
-  pub is-next : next ≡ at + charge (kindOf (gateAt c k .code)) * (4 + 16 * r)
+  pub is-next : next ≡ at + charge (kindOf (gateAt c k .code)) * recordLength (schemeOf scheme)
   pub calls-made : calls ≡ garbleCallsAt (garblingOf c seed scheme) (kindOf (gateAt c k .code)) (siteOf (garblingOf c seed scheme) (zerosTo c seed scheme k) (gateAt c k))
 
 -- before the first gate: the header and the inputs' zero tokens stand at the front of m and z
-pub record GatesStart (c seed : List ℕ) (scheme r q : ℕ) (m z : List ℕ) : Type 0 where
+pub record GatesStart (c seed : List ℕ) (scheme q : ℕ) (m z : List ℕ) : Type 0 where
   pub is-q : q ≡ gates c
-  pub file-room : 11 + outputs c + charges (tabulate (gates c) (gateAt c)) * (4 + 16 * r) ≤ length m
+  pub file-room : materialLength scheme (outputs c) (charges (circuitOf c .gates)) ≤ length m
   pub wires-room : 16 * (inputs c + gates c) ≤ length z
   pub header-front : take 9 m ≡ header (garblingOf c seed scheme)
   pub inputs-front : take (16 * inputs c) z ≡ joinBlocks (inputZeros (garblingOf c seed scheme))
@@ -132,9 +130,9 @@ pub record FrontIs (w : List ℕ) (R : Block) (scheme n outs q : ℕ) (m z o m�
 
 -- ---- the gates and the last record
 
-pub record BodyStart (c seed : List ℕ) (scheme r : ℕ) (s : Sizes) (m z : List ℕ) : Type 0 where
+pub record BodyStart (c seed : List ℕ) (scheme : ℕ) (s : Sizes) (m z : List ℕ) : Type 0 where
   pub sizes : s ≡ sizesOf c
-  pub gates-start : GatesStart c seed scheme r (s .q) m z
+  pub gates-start : GatesStart c seed scheme (s .q) m z
 
 pub record BodyIs (c seed : List ℕ) (scheme : ℕ) (m z m′ z′ : List ℕ) (calls : ℕ) : Type 0 where
   pub zeros-left : z′ ≡ over (joinBlocks (zeroTokens (garblingOf c seed scheme))) z

@@ -7,7 +7,7 @@ use Rattle.model.specs.declared.Sizes.{Sizes}
 use Rattle.model.specs.Bytes.{over}
 use Rattle.model.specs.Circuit.{charges, circuitOf, inputs, outputs, gates}
 use Rattle.model.specs.Tokens.{garblingOf, inputZeros}
-use Rattle.model.specs.Garbling.{zeroTokens, inputOnes}
+use Rattle.model.specs.Garbling.{Known, zeroTokens, inputOnes}
 use Rattle.model.specs.Material.{joinBlocks, materialLength, material}
 use Rattle.model.specs.Calls.{garbleCalls}
 use Rattle.model.specs.Refusals.{fine, circuitVerdict}
@@ -18,8 +18,7 @@ pub record WholeStart (c seed : List ℕ) (scheme : ℕ) (s : Sizes) (m z o : Li
   pub accepted : circuitVerdict c ≡ fine
   pub sizes : s ≡ sizesOf c
   pub seed-length : length seed ≡ 16
-  pub scheme-low : 1 ≤ scheme
-  pub scheme-high : scheme ≤ 3
+  pub known : Known scheme
   pub file-room : materialLength scheme (outputs c) (charges (circuitOf c .gates)) ≤ length m
   pub wires-room : 16 * (inputs c + gates c) ≤ length z
   pub inputs-room : 16 * inputs c ≤ length o

@@ -10,6 +10,7 @@ use block::load;
 use block::store;
 use circuit::code::code_kind;
 use circuit::gates::gate_at;
+use material::record_length;
 use model::Kind;
 use model::Wire;
 use scheme::free_zero;
@@ -55,8 +56,8 @@ pub fn garble_step(
     requires { ⌜ IsTTables (now m) ⌝ }
     requires { ⌜ now w ≡ keyExpansion fixedKey ⌝ }
     requires { ⌜ WalkOf (now circuit) (now seed) (plan .scheme) (plan .n) (plan .stored) (plan .r .bytes) (now ws) ⌝ }
-    requires { ⌜ StepStart (now circuit) (now seed) (plan .scheme) (plan .stored) k at (now material) (now zeros) ⌝ }
-    ensures { λ r. ⌜ StepIs (now (circuit .entry)) (now (seed .entry)) (plan .scheme) (plan .stored) k at (now (material .entry)) (now (zeros .entry)) (r .at) (r .calls) (now (material .exit)) (now (zeros .exit)) ⌝ }
+    requires { ⌜ StepStart (now circuit) (now seed) (plan .scheme) k at (now material) (now zeros) ⌝ }
+    ensures { λ r. ⌜ StepIs (now (circuit .entry)) (now (seed .entry)) (plan .scheme) k at (now (material .entry)) (now (zeros .entry)) (r .at) (r .calls) (now (material .exit)) (now (zeros .exit)) ⌝ }
 {
     let n = plan.n;
     let g = read_operands(circuit, n, k, zeros);
@@ -64,7 +65,7 @@ pub fn garble_step(
     match code_kind(g.code) {
         Kind::Charged(u, v, own) => {
             let calls = garble_charged(m, w, ws, plan, g, u, v, own, material, at, zeros, slot);
-            let at = at + 4 + 16 * plan.stored;
+            let at = at + record_length(plan.scheme);
             Stepped { at, calls }
         }
         Kind::Free { p, q, c } => {
@@ -90,7 +91,7 @@ pub fn garble_gates(
     requires { ⌜ IsTTables (now m) ⌝ }
     requires { ⌜ now w ≡ keyExpansion fixedKey ⌝ }
     requires { ⌜ WalkOf (now circuit) (now seed) (plan .scheme) (plan .n) (plan .stored) (plan .r .bytes) (now ws) ⌝ }
-    requires { ⌜ GatesStart (now circuit) (now seed) (plan .scheme) (plan .stored) q (now material) (now zeros) ⌝ }
+    requires { ⌜ GatesStart (now circuit) (now seed) (plan .scheme) q (now material) (now zeros) ⌝ }
     ensures { λ r. ⌜ GatesIs (now (circuit .entry)) (now (seed .entry)) (plan .scheme) (now (material .entry)) (now (zeros .entry)) (now (material .exit)) (now (zeros .exit)) r ⌝ }
 {
     let mut k: usize = 0;

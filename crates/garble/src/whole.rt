@@ -15,6 +15,7 @@ use aes::s_box;
 use aes::t_tables;
 use block::Block;
 use block::load;
+use material::last_start;
 use material::rows_stored;
 use material::writers::write_header;
 use model::Sizes;
@@ -53,11 +54,11 @@ fn garble_body(
     requires { ⌜ IsTTables (now m) ⌝ }
     requires { ⌜ now w ≡ keyExpansion fixedKey ⌝ }
     requires { ⌜ WalkOf (now circuit) (now seed) (plan .scheme) (plan .n) (plan .stored) (plan .r .bytes) (now ws) ⌝ }
-    requires { ⌜ BodyStart (now circuit) (now seed) (plan .scheme) (plan .stored) z (now material) (now zeros) ⌝ }
+    requires { ⌜ BodyStart (now circuit) (now seed) (plan .scheme) z (now material) (now zeros) ⌝ }
     ensures { λ r. ⌜ BodyIs (now (circuit .entry)) (now (seed .entry)) (plan .scheme) (now (material .entry)) (now (zeros .entry)) (now (material .exit)) (now (zeros .exit)) r ⌝ }
 {
     let calls = garble_gates(m, w, ws, seed, plan, circuit, z.q, material, zeros);
-    let at = 9 + z.p * (4 + 16 * plan.stored);
+    let at = last_start(plan.scheme, z.p);
     write_last(circuit, z, zeros, material, at);
     calls
 }

@@ -10,13 +10,12 @@ use lib.Seq.{getD-take, getD-drop}
 use Rattle.model.specs.declared.Wire.{Wire}
 use Rattle.model.specs.declared.Ran.{Ran}
 use Rattle.model.specs.Circuit.{markAt}
-use Rattle.model.specs.Refusals.{Verdict, fine, refused, refuse, _then_, firstOf, valueVerdict, bitsVerdict}
+use Rattle.model.specs.Refusals.{Verdict, fine, refused, refuse, _then_, firstOf, valueVerdict, bitsVerdict, lastByteVerdict, lastVerdict}
 use Rattle.model.specs.Operations.{ranOf}
 use Rattle.circuit.specs.Answers.{bitsOf}
 use Rattle.circuit.specs.declared.values.Bits.{Bits}
 use Rattle.material.specs.declared.reader.Standing.{Standing}
 use Rattle.material.specs.Reader.{standingAt}
-use Rattle.material.specs.Answers.{lastBytesAt, lastAt}
 use Rattle.material.proofs.ReaderLaws.{isLast, last-record}
 
 -- the same, with 18 at a place for whatever refuses
@@ -39,12 +38,8 @@ module _ (s : List ℕ) (start m : ℕ) where
   abbrev bytes : List ℕ
   bytes = take (start + 2 + m - (start + 2)) (drop (start + 2) s)
 
-  -- 18 of each of them
-  abbrev byteVerdict : ℕ → Verdict
-  byteVerdict i = refuse (ltb 1 (getD s (start + 2 + i) 0)) 18 start
-
-  bytes-first : (k : ℕ) → k ≤ m → firstOf byteVerdict k ≡ as18 start (firstOf (valueVerdict bytes) k)
-  unfolding firstOf valueVerdict
+  bytes-first : (k : ℕ) → k ≤ m → firstOf (lastByteVerdict s start) k ≡ as18 start (firstOf (valueVerdict bytes) k)
+  unfolding firstOf valueVerdict lastByteVerdict
   bytes-first zero h = refl
   bytes-first (suc k) h =
       let e : getD bytes k 0 ≡ getD s (start + 2 + k) 0 = getD-take (start + 2 + m - (start + 2)) _ k 0 (omega arith) ∙ getD-drop (start + 2) s k 0 in
@@ -55,13 +50,13 @@ module _ (s : List ℕ) (start m : ℕ) where
     many : length bytes ≡ m
     many = simp (length-take, length-drop) (omega arith)
 
-    searched : as18 start (bitsOf t) ≡ lastBytesAt s start m
+    searched : as18 start (bitsOf t) ≡ firstOf (lastByteVerdict s start) m
     searched = rw (is-t, many) (sym (bytes-first m (omega arith)))
 
-    pub bytes-fine : t ≡ Bits.Fine → fine ≡ lastBytesAt s start m
+    pub bytes-fine : t ≡ Bits.Fine → fine ≡ firstOf (lastByteVerdict s start) m
     bytes-fine e = rw e at searched
 
-    pub bytes-fault : (i : ℕ) → t ≡ Bits.Fault i → refused 18 start ≡ lastBytesAt s start m
+    pub bytes-fault : (i : ℕ) → t ≡ Bits.Fault i → refused 18 start ≡ firstOf (lastByteVerdict s start) m
     bytes-fault i e = rw e at searched
 
   -- ---- check_last: what the reader found
@@ -69,21 +64,21 @@ module _ (s : List ℕ) (start m : ℕ) where
     mark : isLast x ≡ markAt s start 0x47 0x44
     mark = rw is-x (last-record s start (omega arith))
 
-    wrong : isLast x ≡ false → refused 18 start ≡ lastAt s start m
-    unfolding lastAt _then_ refuse
+    wrong : isLast x ≡ false → refused 18 start ≡ lastVerdict s start m
+    unfolding lastVerdict _then_ refuse
     wrong h = simp (← mark, h)
 
-    pub last-gate : (w : Wire) → x ≡ Standing.Gate w → refused 18 start ≡ lastAt s start m
+    pub last-gate : (w : Wire) → x ≡ Standing.Gate w → refused 18 start ≡ lastVerdict s start m
     last-gate w e = wrong (rw e)
 
-    pub last-cut : (w : Wire) → x ≡ Standing.Cut w → refused 18 start ≡ lastAt s start m
+    pub last-cut : (w : Wire) → x ≡ Standing.Cut w → refused 18 start ≡ lastVerdict s start m
     last-cut w e = wrong (rw e)
 
-    pub last-nothing : x ≡ Standing.Nothing → refused 18 start ≡ lastAt s start m
+    pub last-nothing : x ≡ Standing.Nothing → refused 18 start ≡ lastVerdict s start m
     last-nothing e = wrong (rw e)
 
-    pub last-marked : x ≡ Standing.Last → (r : Ran) → ranOf r ≡ lastBytesAt s start m → ranOf r ≡ lastAt s start m
-    unfolding lastAt _then_ refuse
+    pub last-marked : x ≡ Standing.Last → (r : Ran) → ranOf r ≡ firstOf (lastByteVerdict s start) m → ranOf r ≡ lastVerdict s start m
+    unfolding lastVerdict _then_ refuse
     last-marked e r is-r = let h : true ≡ markAt s start 0x47 0x44 = rw e at mark in is-r ∙ simp (← h)
 
 pub ruleset bytes-cases = (bytes-fine, bytes-fault)

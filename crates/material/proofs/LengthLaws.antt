@@ -1,24 +1,40 @@
--- The rows and the length of a material. Assumes nothing.
-use Prim.Native.Nat.{ℕ, zero, suc, _+_, _*_, _≤_}
+-- The lengths of a material: a law for each return and each count that could overflow. Assumes nothing.
+use Prim.Native.Nat.{ℕ, _+_, _*_, _≤_}
 use native.Mathlib.Nat.{mul-le-mul}
 use native.Mathlib.Omega.{arith}
-use mathlib.Core.Path.{_≡_, refl}
-use Rattle.model.specs.Material.{rowsStored, materialLength}
+use mathlib.Core.Path.{_≡_, sym, _∙_}
+use mir.Syntax.{w64}
+use mir.Val.{Fits}
+use Rattle.model.specs.Scheme.{recordLength}
+use Rattle.model.specs.Garbling.{schemeOf}
+use Rattle.model.specs.Material.{lastStart, materialLength}
+use Rattle.model.proofs.Places.{length-last}
 
--- no other byte is a scheme's
-pub rows-other : (s : ℕ) → (s ≡ 1 → ⊥) → (s ≡ 2 → ⊥) → (s ≡ 3 → ⊥) → 0 ≡ rowsStored s
-unfolding rowsStored
-rows-other zero h1 h2 h3 = refl
-rows-other (suc zero) h1 h2 h3 = absurd (h1 refl)
-rows-other (suc (suc zero)) h1 h2 h3 = absurd (h2 refl)
-rows-other (suc (suc (suc zero))) h1 h2 h3 = absurd (h3 refl)
-rows-other (suc (suc (suc (suc s)))) h1 h2 h3 = refl
+-- record_length, of the rows as they were counted
+pub record-made : (scheme r : ℕ) → r ≡ schemeOf scheme .stored → 4 + 16 * r ≡ recordLength (schemeOf scheme)
+unfolding recordLength
+record-made scheme r e = rw e
 
--- the records of p charged gates fit
-pub records-fit : (p r : ℕ) → p ≤ 65535 → r ≤ 4 → p * (4 + 16 * r) ≤ 65535 * 68
-records-fit p r h l = let k : 4 + 16 * r ≤ 68 = omega arith in mul-le-mul h k
+-- last_start, of a record's bytes as they were counted
+module _ (scheme p r : ℕ) (few : p ≤ 65535) (is-r : r ≡ recordLength (schemeOf scheme)) (small : r ≤ 68) where
+  records-few : p * r ≤ 65535 * 68
+  records-few = mul-le-mul few small
 
--- the length, of the rows as they were counted
-pub length-made : (scheme m p r : ℕ) → r ≡ rowsStored scheme → 11 + m + p * (4 + 16 * r) ≡ materialLength scheme m p
-unfolding materialLength
-length-made scheme m p r e = rw e
+  pub records-fit : Fits w64 (p * r)
+  records-fit = omega (arith, records-few)
+
+  pub place-fits : Fits w64 (9 + p * r)
+  place-fits = omega (arith, records-few)
+
+  pub place-made : 9 + p * r ≡ lastStart scheme p
+  unfolding lastStart
+  place-made = rw is-r
+
+  pub place-small : 9 + p * r ≤ 4456389
+  place-small = omega (arith, records-few)
+
+pub ruleset start-cases = (records-fit, place-fits, place-made, place-small)
+
+-- material_length, of the last record's place
+pub length-made : (scheme m p x : ℕ) → x ≡ lastStart scheme p → x + 2 + m ≡ materialLength scheme m p
+length-made scheme m p x e = rw e (sym (length-last scheme m p))

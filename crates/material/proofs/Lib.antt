@@ -11,3 +11,4 @@ pub mod MaterialLaws
 pub mod WellFormed
 pub mod ReadsOn
 pub mod WriterLaws
+pub mod AsSaid

@@ -13,12 +13,14 @@ use lib.Dec.{leb, eqb}
 use Rattle.model.specs.declared.Wire.{Wire}
 use Rattle.model.specs.Bytes.{be16}
 use Rattle.model.specs.Circuit.{markAt}
-use Rattle.model.specs.Material.{rowsStored}
+use Rattle.model.specs.Scheme.{recordLength}
+use Rattle.model.specs.Garbling.{schemeOf}
 use Rattle.model.specs.Refusals.{rowRecordAt}
+use Rattle.model.proofs.Places.{record-low}
 use Rattle.model.proofs.Verdicts.{and-both}
 use Rattle.material.specs.declared.reader.Standing.{Standing}
 use Rattle.material.specs.declared.reader.Record.{Record}
-use Rattle.material.specs.Reader.{ifSo, marked, recordBytes, gateStanding, standingAt, pastAt, isRowOf}
+use Rattle.material.specs.Reader.{ifSo, marked, gateStanding, standingAt, pastAt, isRowOf}
 
 -- ---- marks
 and-false : (a b : Bool) → b ≡ false → (a && b) ≡ false
@@ -46,25 +48,24 @@ module _ (s : List ℕ) (at : ℕ) where
     unfolding marked
     stands h e = simp (le-leb _ _ h, e)
 
--- ---- record_bytes, of the rows as they were counted
-pub bytes-counted : (s : List ℕ) (rows : ℕ) → rows ≡ rowsStored (getD s 2 0) → 4 + 16 * rows ≡ recordBytes s
-bytes-counted s rows e = rw e
-
 -- ---- gate_standing: the wire number and the record's bytes as they were read
-module _ (s : List ℕ) (at own : ℕ) (is-own : own ≡ be16 s (at + 2)) (bytes : ℕ) (is-bytes : bytes ≡ recordBytes s) (room : at + 4 ≤ length s) where
+pub scheme-there : (s : List ℕ) (at : ℕ) → at + 4 ≤ length s → 2 < length s
+scheme-there s at h = omega arith
+
+module _ (s : List ℕ) (at own : ℕ) (is-own : own ≡ be16 s (at + 2)) (bytes : ℕ) (is-bytes : bytes ≡ recordLength (schemeOf (getD s 2 0))) (room : at + 4 ≤ length s) where
   pub stands-cut : length s - at < bytes → Standing.Cut (record { 0 = own }) ≡ gateStanding s at
   unfolding gateStanding
   stands-cut h =
-      let over : length s < at + recordBytes s = omega (arith, is-bytes) in
+      let over : length s < at + recordLength (schemeOf (getD s 2 0)) = omega (arith, is-bytes) in
       simp (lt-leb _ _ over, is-own)
 
   pub stands-whole : bytes ≤ length s - at → Standing.Gate (record { 0 = own }) ≡ gateStanding s at
   unfolding gateStanding
   stands-whole h =
-      let within : at + recordBytes s ≤ length s = omega (arith, is-bytes) in
+      let within : at + recordLength (schemeOf (getD s 2 0)) ≤ length s = omega (arith, is-bytes) in
       simp (le-leb _ _ within, is-own)
 
-pub ruleset gate-cases = (stands-cut, stands-whole)
+pub ruleset gate-cases = (scheme-there, stands-cut, stands-whole)
 
 -- ---- standing_at: the bytes from the place on, and the marks as they were tried
 module _ (s : List ℕ) (at : ℕ) where
@@ -114,16 +115,16 @@ module _ (s : List ℕ) (at : ℕ) where
   module _ (r : Standing) (is-r : r ≡ standingAt s at) where
     module _ (w : Wire) (e : r ≡ Standing.Gate w) where
       -- the record lies within the material
-      gate-inside : at + recordBytes s ≤ length s
+      gate-inside : at + recordLength (schemeOf (getD s 2 0)) ≤ length s
       unfolding standingAt gateStanding
       gate-inside =
-          leb-true (at + recordBytes s) (length s)
-          (whole-gate (marked s at 0x47 0x54 4) (leb (at + recordBytes s) (length s)) (marked s at 0x47 0x44 2) (record { 0 = be16 s (at + 2) }) w (sym e ∙ is-r))
+          leb-true (at + recordLength (schemeOf (getD s 2 0))) (length s)
+          (whole-gate (marked s at 0x47 0x54 4) (leb (at + recordLength (schemeOf (getD s 2 0))) (length s)) (marked s at 0x47 0x44 2) (record { 0 = be16 s (at + 2) }) w (sym e ∙ is-r))
 
       pub scheme-inside : 2 < length s
-      scheme-inside = omega (arith, gate-inside)
+      scheme-inside = omega (arith, gate-inside, record-low (getD s 2 0))
 
-      module _ (bytes : ℕ) (is-bytes : bytes ≡ recordBytes s) where
+      module _ (bytes : ℕ) (is-bytes : bytes ≡ recordLength (schemeOf (getD s 2 0))) where
         pub past-fits : length s < 2 ^ 64 → Fits w64 (at + bytes)
         past-fits h = omega (arith, gate-inside, is-bytes)
 
@@ -172,7 +173,7 @@ module _ (s : List ℕ) (at : ℕ) where
   unfolding standingAt gateStanding marked rowRecordAt
   row-record due h =
       simp (le-leb _ _ h)
-      (of-mark (markAt s at 0x47 0x54) (leb (at + recordBytes s) (length s)) (leb (at + 2) (length s) && markAt s at 0x47 0x44) due (record { 0 = be16 s (at + 2) }))
+      (of-mark (markAt s at 0x47 0x54) (leb (at + recordLength (schemeOf (getD s 2 0))) (length s)) (leb (at + 2) (length s) && markAt s at 0x47 0x44) due (record { 0 = be16 s (at + 2) }))
 
   of-whole : (m c : Bool) (due : ℕ) (w : Wire) → isRowOf due (ifSo m (Standing.Gate w) (ifSo c Standing.Last Standing.Nothing)) ≡ (m && eqb (w .0) due)
   of-whole true c due w = refl
@@ -180,18 +181,18 @@ module _ (s : List ℕ) (at : ℕ) where
   of-whole false false due w = refl
 
   -- where the rows lie within the material too
-  module _ (room : at + recordBytes s ≤ length s) (due : ℕ) where
+  module _ (room : at + recordLength (schemeOf (getD s 2 0)) ≤ length s) (due : ℕ) where
     pub whole-record : isRowOf due (standingAt s at) ≡ rowRecordAt s at due
     unfolding standingAt gateStanding marked rowRecordAt
     whole-record =
-        let four : at + 4 ≤ length s = omega arith in
+        let four : at + 4 ≤ length s = omega (arith, record-low (getD s 2 0)) in
         simp (le-leb _ _ room, le-leb _ _ four) (of-whole (markAt s at 0x47 0x54) (leb (at + 2) (length s) && markAt s at 0x47 0x44) due (record { 0 = be16 s (at + 2) }))
 
     pub record-stands : rowRecordAt s at due ≡ true → standingAt s at ≡ Standing.Gate (record { 0 = due })
     unfolding standingAt gateStanding rowRecordAt
     record-stands e =
         let both = and-both (markAt s at 0x47 0x54) (eqb (be16 s (at + 2)) due) e in
-        simp (stands s at 0x47 0x54 4 (omega arith) (both .0), le-leb _ _ room, eqb-true (be16 s (at + 2)) due (both .1))
+        simp (stands s at 0x47 0x54 4 (omega (arith, record-low (getD s 2 0))) (both .0), le-leb _ _ room, eqb-true (be16 s (at + 2)) due (both .1))
 
   no-mark : (a b c : Bool) (w : Wire) → c ≡ false → isLast (ifSo a (ifSo b (Standing.Gate w) (Standing.Cut w)) (ifSo c Standing.Last Standing.Nothing)) ≡ false
   no-mark true true c w e = refl
@@ -206,4 +207,4 @@ module _ (s : List ℕ) (at : ℕ) where
       go : (b : Bool) → b ≡ markAt s at 0x47 0x44 → isLast (standingAt s at) ≡ b
       go true e = ap isLast (sym (stands-last s at (omega arith) (omega arith) true e refl))
       go false e =
-          no-mark (marked s at 0x47 0x54 4) (leb (at + recordBytes s) (length s)) (marked s at 0x47 0x44 2) (record { 0 = be16 s (at + 2) }) (other s at 0x47 0x44 2 (sym e))
+          no-mark (marked s at 0x47 0x54 4) (leb (at + recordLength (schemeOf (getD s 2 0))) (length s)) (marked s at 0x47 0x44 2) (record { 0 = be16 s (at + 2) }) (other s at 0x47 0x44 2 (sym e))

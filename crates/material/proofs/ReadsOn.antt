@@ -9,19 +9,23 @@ use mathlib.Core.Path.{_≡_, refl, sym, _∙_}
 use mathlib.Core.Bool.{true}
 use mathlib.Core.List.{List}
 use borrow.Author.Tests.{not-false}
-use lib.ListN.{length}
+use lib.ListN.{length, getD}
 use Rattle.model.specs.Bytes.{tabulate}
 use Rattle.model.specs.Circuit as Kinds
 use Rattle.model.specs.Circuit.{circuitOf, inputs, outputs, gates, gateAt, gateWire, kindOf, charge, charges, markAt}
+use Rattle.model.specs.Scheme.{recordLength}
+use Rattle.model.specs.Garbling.{schemeOf}
+use Rattle.model.specs.Material.{lastStart}
 use Rattle.model.specs.Refusals.{fine, isCharged, rowStart, rowRecordAt, rowVerdict, lastVerdict, materialVerdict}
 use Rattle.model.proofs.Lists.{tabulate-snoc}
 use Rattle.model.proofs.Circuits.{charges-snoc, charge-le}
 use Rattle.model.proofs.Verdicts.{then-fine, refuse-fine, first-each}
 use Rattle.material.specs.declared.reader.Standing.{Standing}
-use Rattle.material.specs.Reader.{recordBytes, standingAt, pastAt, recordOf}
+use Rattle.material.specs.Reader.{standingAt, pastAt, recordOf}
 use Rattle.material.proofs.SizeLaws.{inputs-same, gates-many, code-at}
+use Rattle.material.proofs.MaterialLaws.{circuit-file}
 use Rattle.material.proofs.ReaderLaws.{record-stands, record-found, stands-last}
-use Rattle.material.proofs.RowLaws.{row-first, row-next, last-start, row-room, FileHolds, file-holds}
+use Rattle.material.proofs.RowLaws.{row-first, row-next, row-end, last-ends, row-room, FileHolds, file-holds}
 
 pub record ReadsOn (c s : List ℕ) : Type 0 where
   -- it begins past the header
@@ -33,7 +37,8 @@ pub record ReadsOn (c s : List ℕ) : Type 0 where
   pub no-record : (k : ℕ) → k < gates c → charge (kindOf (gateAt c k .code)) ≡ 0 → rowStart (circuitOf c) s (k + 1) ≡ rowStart (circuitOf c) s k
   -- past them all the last record, which has a byte for each output after its mark; past it the end
   pub last : recordOf s (rowStart (circuitOf c) s (gates c)) ≡ record { standing = Standing.Last; next = length s }
-  pub last-place : rowStart (circuitOf c) s (gates c) ≡ length s - outputs c - 2
+  pub last-place : rowStart (circuitOf c) s (gates c) ≡ lastStart (getD s 2 0) (charges (circuitOf c .gates))
+  pub last-long : rowStart (circuitOf c) s (gates c) + 2 + outputs c ≡ length s
 
 charged-one : (x : Kinds.Kind) → charge x ≡ 1 → isCharged x ≡ true
 charged-one (Kinds.charged u v y) e = refl
@@ -43,7 +48,7 @@ charged-one Kinds.refused e = absurd (omega arith)
 module _ (c s : List ℕ) (e : materialVerdict (circuitOf c) s ≡ fine) where
   file : FileHolds c s
   unfolding materialVerdict
-  file = file-holds c s (then-fine _ _ (then-fine _ _ e .0) .0)
+  file = file-holds c s (circuit-file c s ∙ then-fine _ _ (then-fine _ _ e .0) .0)
 
   module _ (k : ℕ) (h : k < gates c) (one : charge (kindOf (gateAt c k .code)) ≡ 1) where
     is-there : rowRecordAt s (rowStart (circuitOf c) s k) (gateWire (inputs c) k) ≡ true
@@ -52,7 +57,7 @@ module _ (c s : List ℕ) (e : materialVerdict (circuitOf c) s ≡ fine) where
         let each = first-each _ _ k (then-fine _ _ (then-fine _ _ e .0) .1) (rw (gates-many c) h) in
         rw (← inputs-same c) (not-false _ (rw (code-at c k h, charged-one (kindOf (gateAt c k .code)) one) at (refuse-fine _ _ _ each)))
 
-    room : rowStart (circuitOf c) s k + recordBytes s ≤ length s
+    room : rowStart (circuitOf c) s k + recordLength (schemeOf (getD s 2 0)) ≤ length s
     room = omega (arith, rw one at (row-room c s (file .whole) k h))
 
     stands : standingAt s (rowStart (circuitOf c) s k) ≡ Standing.Gate (record { 0 = gateWire (inputs c) k })
@@ -62,11 +67,11 @@ module _ (c s : List ℕ) (e : materialVerdict (circuitOf c) s ≡ fine) where
     past = rw (stands, row-next c s k h, one) (omega arith)
 
   start-last : rowStart (circuitOf c) s (gates c) + 2 + outputs c ≡ length s
-  start-last = last-start c s (file .whole)
+  start-last = rw (row-end c s) (last-ends c s (file .whole))
 
   mark-last : markAt s (rowStart (circuitOf c) s (gates c)) 0x47 0x44 ≡ true
   unfolding materialVerdict lastVerdict
-  mark-last = rw (← gates-many c) (not-false _ (refuse-fine _ _ _ (then-fine _ _ (then-fine _ _ e .1) .0)))
+  mark-last = rw (row-end c s) (not-false _ (refuse-fine _ _ _ (then-fine _ _ (then-fine _ _ e .1) .0)))
 
   stands-at-last : standingAt s (rowStart (circuitOf c) s (gates c)) ≡ Standing.Last
   stands-at-last = sym (stands-last s (rowStart (circuitOf c) s (gates c)) (omega (arith, start-last)) (omega (arith, start-last)) true (sym mark-last) refl)
@@ -77,7 +82,8 @@ module _ (c s : List ℕ) (e : materialVerdict (circuitOf c) s ≡ fine) where
     each-gate = λ k h one. record-found _ _ _ _ (stands k h one) (past k h one);
     no-record = λ k h none. rw (row-next c s k h, none) (omega arith);
     last = record-found _ _ _ _ stands-at-last (rw stands-at-last);
-    last-place = omega (arith, start-last);
+    last-place = row-end c s;
+    last-long = start-last;
   }
 
 -- ---- the whole way

@@ -4,7 +4,7 @@ use native.Mathlib.Omega.{arith}
 use mathlib.Core.Path.{_≡_, refl, sym, ap, _∙_}
 use mathlib.Core.Bool.{Bool, true, false, not, _&&_}
 use mathlib.Core.List.{List}
-use lib.ListN.{length}
+use lib.ListN.{length, getD}
 use lib.Dec.{eqb}
 use borrow.Author.Tests.{eq-eqb, ne-eqb}
 use Rattle.model.specs.declared.Gate.{Gate}
@@ -15,6 +15,8 @@ use Rattle.model.specs.declared.Refusal.{Refusal}
 use Rattle.model.specs.declared.Wire.{Wire}
 use Rattle.model.specs.Circuit as Kinds
 use Rattle.model.specs.Circuit.{circuitOf, gates, gateAt, kindOf, charge}
+use Rattle.model.specs.Scheme.{recordLength}
+use Rattle.model.specs.Garbling.{schemeOf}
 use Rattle.model.specs.Refusals.{fine, refused, refuse, verdictOf, firstOf, isCharged, rowStart, rowRecordAt, rowVerdict}
 use Rattle.model.specs.Operations.{Answer, no, yes, answer}
 use Rattle.model.proofs.Verdicts.{yes-given, Turned, no-turned, first-next, first-found}
@@ -23,11 +25,11 @@ use Rattle.material.specs.declared.records.Cursor.{Cursor}
 use Rattle.material.specs.declared.records.Step.{Step}
 use Rattle.material.specs.declared.reader.Standing.{Standing}
 use Rattle.material.specs.declared.reader.Record.{Record}
-use Rattle.material.specs.Reader.{recordBytes, standingAt, recordOf, isRowOf}
+use Rattle.material.specs.Reader.{standingAt, recordOf, isRowOf}
 use Rattle.material.specs.Answers.{Filed, AtGate, stepOf, nextAnswer, gateAnswer, recordsVerdict, recordsAnswer}
 use Rattle.material.proofs.SizeLaws.{inputs-same, code-at, limits, is-n, is-q, few-wires}
 use Rattle.material.proofs.ReaderLaws.{isOf, row-record, whole-record, record-stands}
-use Rattle.material.proofs.RowLaws.{row-first, row-next, row-room, file-holds}
+use Rattle.material.proofs.RowLaws.{row-first, row-next, row-end, row-room, filed-holds}
 
 -- ---- is_row: what the reader found
 module _ (s : List ℕ) (at due : ℕ) (room : at + 4 ≤ length s) (x : Standing) (is-x : x ≡ standingAt s at) where
@@ -80,7 +82,7 @@ pub ruleset next-cases = (next-wire, next-cut, next-last, next-nothing, next-rig
 -- past the record of a gate of this code and this wire, if it has one: it is at the index
 abbrev pub passAnswer : List ℕ → ℕ → ℕ → ℕ → Answer ℕ
 passAnswer s at code due =
-    answer (refuse (isCharged (kindOf code) && not (rowRecordAt s at due)) 17 due) (at + charge (kindOf code) * recordBytes s)
+    answer (refuse (isCharged (kindOf code) && not (rowRecordAt s at due)) 17 due) (at + charge (kindOf code) * recordLength (schemeOf (getD s 2 0)))
 
 none-charged : (k : Kinds.Kind) → charge k ≡ 0 → isCharged k ≡ false
 none-charged (Kinds.charged u v x) e = absurd (omega arith)
@@ -95,27 +97,27 @@ one-charged Kinds.refused e = absurd (e refl)
 module _ (s : List ℕ) (at code due : ℕ) where
   pub answer-free : charge (kindOf code) ≡ 0 → yes at ≡ passAnswer s at code due
   unfolding refuse
-  answer-free e = let none : at ≡ at + 0 * recordBytes s = omega arith in rw (none-charged (kindOf code) e, e) (ap yes none)
+  answer-free e = let none : at ≡ at + 0 * recordLength (schemeOf (getD s 2 0)) = omega arith in rw (none-charged (kindOf code) e, e) (ap yes none)
 
   module _ (e : charge (kindOf code) ≡ 0 → ⊥) where
     pub answer-wrong : rowRecordAt s at due ≡ false → no (refused 17 due) ≡ passAnswer s at code due
     unfolding refuse
     answer-wrong h = let k = one-charged (kindOf code) e in rw (k .0, h)
 
-    pub answer-right : rowRecordAt s at due ≡ true → (there : ℕ) → there ≡ at + recordBytes s → yes there ≡ passAnswer s at code due
+    pub answer-right : rowRecordAt s at due ≡ true → (there : ℕ) → there ≡ at + recordLength (schemeOf (getD s 2 0)) → yes there ≡ passAnswer s at code due
     unfolding refuse
     answer-right h there f =
         let k = one-charged (kindOf code) e in
-        let whole : at + recordBytes s ≡ at + 1 * recordBytes s = omega arith in
+        let whole : at + recordLength (schemeOf (getD s 2 0)) ≡ at + 1 * recordLength (schemeOf (getD s 2 0)) = omega arith in
         rw (k .0, k .1, h, f) (ap yes whole)
 
     -- as the reader finds it, where its rows lie within the material
-    pub answer-read : at + recordBytes s ≤ length s → nextAnswer s at due ≡ passAnswer s at code due
+    pub answer-read : at + recordLength (schemeOf (getD s 2 0)) ≤ length s → nextAnswer s at due ≡ passAnswer s at code due
     unfolding refuse
     answer-read room = go (rowRecordAt s at due) refl
       where
         go : (b : Bool) → rowRecordAt s at due ≡ b → nextAnswer s at due ≡ passAnswer s at code due
-        go true h = simp (record-stands s at room due h, eq-eqb due due refl) (answer-right h (at + recordBytes s) refl)
+        go true h = simp (record-stands s at room due h, eq-eqb due due refl) (answer-right h (at + recordLength (schemeOf (getD s 2 0))) refl)
         go false h = let i : isRowOf due (standingAt s at) ≡ false = whole-record s at room due ∙ h in simp i (answer-wrong h)
 
 -- ---- pass_gate
@@ -130,7 +132,7 @@ module _ (c : List ℕ) (z : Sizes) (s : List ℕ) (k at : ℕ) (turn : AtGate c
   module _ (g : Gate) (is-g : g ≡ gateAt c k) where
     pub gate-passed : (r : Step) → stepOf r ≡ passAnswer s at (g .code) (z .n + k + 1) → stepOf r ≡ gateAnswer c s k
     gate-passed r is-r =
-        let after : rowStart (circuitOf c) s (k + 1) ≡ at + charge (kindOf (g .code)) * recordBytes s = rw (row-next c s k inside, ← is-g, turn .placed) in
+        let after : rowStart (circuitOf c) s (k + 1) ≡ at + charge (kindOf (g .code)) * recordLength (schemeOf (getD s 2 0)) = rw (row-next c s k inside, ← is-g, turn .placed) in
         rw (at-gate, after) is-r
       where
         at-gate : rowVerdict (circuitOf c) s k ≡ refuse (isCharged (kindOf (g .code)) && not (rowRecordAt s at (z .n + k + 1))) 17 (z .n + k + 1)
@@ -153,8 +155,8 @@ module _ (c : List ℕ) (z : Sizes) (s : List ℕ) (k at : ℕ) (turn : AtGate c
           one : charge (kindOf (g .code)) ≡ 1
           one = rw (← is-kind, e)
 
-          room : at + 1 * recordBytes s ≤ length s
-          room = rw (← one, turn .placed, is-g) (omega (arith, row-room c s (file-holds c s (turn .known .filed) .whole) k inside))
+          room : at + 1 * recordLength (schemeOf (getD s 2 0)) ≤ length s
+          room = rw (← one, turn .placed, is-g) (omega (arith, row-room c s (filed-holds c z s (turn .known) .whole) k inside))
 
 pub ruleset gate-cases = (gate-free, gate-refused, gate-charged)
 
@@ -174,7 +176,7 @@ module _ (c : List ℕ) (z : Sizes) (s : List ℕ) (known : Filed c z s) where
     records-end h =
         let w = inv .within in
         let e : gates c ≡ k = omega (arith, is-q c z (known .circuit)) in
-        rw (e, inv .no-fault, inv .placed)
+        rw (← row-end c s, e, inv .no-fault, inv .placed)
 
     module _ (more : k < z .q) where
       pub at-turn : AtGate c z s k (here .at)

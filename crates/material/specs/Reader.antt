@@ -1,13 +1,14 @@
 -- Document 01, "Material": "A reader over the lent material goes from one marked record to the next and remembers how far it is." What stands at a place of a
 -- material, and the place past it, of any bytes and for any place.
-use Prim.Native.Nat.{ℕ, _+_, _*_}
+use Prim.Native.Nat.{ℕ, _+_}
 use mathlib.Core.Bool.{Bool, true, false, _&&_}
 use mathlib.Core.List.{List}
 use lib.ListN.{length, getD}
 use lib.Dec.{leb, eqb}
 use Rattle.model.specs.Bytes.{be16}
 use Rattle.model.specs.Circuit.{markAt}
-use Rattle.model.specs.Material.{rowsStored}
+use Rattle.model.specs.Scheme.{recordLength}
+use Rattle.model.specs.Garbling.{schemeOf}
 use Rattle.material.specs.declared.reader.Standing.{Standing}
 use Rattle.material.specs.declared.reader.Standing.the-variants.{Gate, Cut, Last, Nothing}
 use Rattle.material.specs.declared.reader.Record.{Record}
@@ -21,13 +22,9 @@ ifSo false x y = y
 unfoldable pub marked : List ℕ → ℕ → ℕ → ℕ → ℕ → Bool
 marked s at x y bytes = leb (at + bytes) (length s) && markAt s at x y
 
--- "mark 47 54, its wire number (2 bytes), its r rows", r by the material's scheme byte
-abbrev pub recordBytes : List ℕ → ℕ
-recordBytes s = 4 + 16 * rowsStored (getD s 2 0)
-
--- a gate's record, where its mark stands: whole, or cut short by the material's end
+-- a gate's record, where its mark stands: whole, by the material's scheme byte, or cut short by the material's end
 unfoldable pub gateStanding : List ℕ → ℕ → Standing
-gateStanding s at = ifSo (leb (at + recordBytes s) (length s)) (Gate (record { 0 = be16 s (at + 2) })) (Cut (record { 0 = be16 s (at + 2) }))
+gateStanding s at = ifSo (leb (at + recordLength (schemeOf (getD s 2 0))) (length s)) (Gate (record { 0 = be16 s (at + 2) })) (Cut (record { 0 = be16 s (at + 2) }))
 
 -- a gate's record, by its mark and wire number; "Last: mark 47 44"; or neither
 unfoldable pub standingAt : List ℕ → ℕ → Standing
@@ -35,7 +32,7 @@ standingAt s at = ifSo (marked s at 0x47 0x54 4) (gateStanding s at) (ifSo (mark
 
 -- the place past what stands at a place: past a gate's record, the next; past the last one, the end; nothing else is gone past
 abbrev pub pastOf : List ℕ → ℕ → Standing → ℕ
-pastOf s at (Gate w) = at + recordBytes s
+pastOf s at (Gate w) = at + recordLength (schemeOf (getD s 2 0))
 pastOf s at (Cut w) = at
 pastOf s at Last = length s
 pastOf s at Nothing = at

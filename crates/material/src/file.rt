@@ -2,8 +2,8 @@
 ghost use mathlib.Core.Path.{_≡_};
 ghost use Prim.Native.Nat.{_≤_};
 ghost use lib.ListN.{length};
+ghost use Rattle.model.specs.Refusals.{sameSizes, fileVerdict};
 ghost use Rattle.model.specs.Operations.{ranOf};
-ghost use Rattle.material.specs.Answers.{sameSizes, sizesVerdict};
 use crate::marks::mark_at;
 use crate::material_length;
 use buffer::read16;
@@ -28,7 +28,7 @@ fn same_sizes(material: &[u8], z: Sizes) -> bool
 // The first of refusals 12 to 16, of a material for a circuit of these sizes.
 pub fn check_file(material: &[u8], z: Sizes) -> Ran
     requires { ⌜ (z .m ≤ 65535) × (z .p ≤ 65535) ⌝ }
-    ensures { λ r. ⌜ ranOf r ≡ sizesVerdict z (now (material .entry)) ⌝ }
+    ensures { λ r. ⌜ ranOf r ≡ fileVerdict z (now (material .entry)) ⌝ }
 {
     let len = material.len();
     if len < 9 {

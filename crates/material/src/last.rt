@@ -2,8 +2,8 @@
 ghost use mathlib.Core.Path.{_≡_};
 ghost use Prim.Native.Nat.{_+_, _≤_};
 ghost use lib.ListN.{length};
+ghost use Rattle.model.specs.Refusals.{firstOf, lastByteVerdict, lastVerdict};
 ghost use Rattle.model.specs.Operations.{ranOf};
-ghost use Rattle.material.specs.Answers.{lastBytesAt, lastAt};
 use crate::reader::Standing;
 use crate::reader::found_at;
 use circuit::values::Bits;
@@ -14,7 +14,7 @@ use model::Refusal;
 // Refusal 18 of the m bytes after the mark of a record that starts at an index: one of them exceeds 1.
 fn check_last_bytes(material: &[u8], m: usize, start: usize) -> Ran
     requires { ⌜ start + 2 + m ≤ length (now material) ⌝ }
-    ensures { λ r. ⌜ ranOf r ≡ lastBytesAt (now (material .entry)) start m ⌝ }
+    ensures { λ r. ⌜ ranOf r ≡ firstOf (lastByteVerdict (now (material .entry)) start) m ⌝ }
 {
     let bytes = start + 2;
     let end = bytes + m;
@@ -28,7 +28,7 @@ fn check_last_bytes(material: &[u8], m: usize, start: usize) -> Ran
 // the place either way.
 pub fn check_last(material: &[u8], m: usize, start: usize) -> Ran
     requires { ⌜ start + 2 + m ≤ length (now material) ⌝ }
-    ensures { λ r. ⌜ ranOf r ≡ lastAt (now (material .entry)) start m ⌝ }
+    ensures { λ r. ⌜ ranOf r ≡ lastVerdict (now (material .entry)) start m ⌝ }
 {
     match found_at(material, start) {
         Standing::Gate(_) => Ran::Refused(Refusal::LastRecord(start)),

@@ -2,7 +2,9 @@
 ghost use mathlib.Core.Path.{_≡_};
 ghost use Prim.Native.Nat.{_≤_};
 ghost use Rattle.model.specs.Circuit.{circuitOf};
-ghost use Rattle.model.specs.Material.{rowsStored, materialLength};
+ghost use Rattle.model.specs.Scheme.{recordLength};
+ghost use Rattle.model.specs.Garbling.{schemeOf};
+ghost use Rattle.model.specs.Material.{lastStart, materialLength};
 ghost use Rattle.model.specs.Refusals.{materialVerdict};
 ghost use Rattle.model.specs.Operations.{ranOf};
 ghost use Rattle.material.specs.Answers.{Accepted};
@@ -22,23 +24,36 @@ pub mod writers;
 
 // The rows of a charged gate, by the scheme byte.
 pub fn rows_stored(scheme: u8) -> usize
-    ensures { λ r. ⌜ (r ≡ rowsStored scheme) × (r ≤ 4) ⌝ }
+    ensures { λ r. ⌜ (r ≡ schemeOf scheme .stored) × (r ≤ 4) ⌝ }
 {
     match scheme {
         1 => 4,
         2 => 3,
-        3 => 2,
-        _ => 0,
+        _ => 2,
     }
 }
 
-// The material's length 11+m+p(4+16r), for m outputs and p charged gates.
+// The bytes of a charged gate's record, by the scheme byte: mark and wire number, 4 bytes, and its rows.
+pub fn record_length(scheme: u8) -> usize
+    ensures { λ r. ⌜ (r ≡ recordLength (schemeOf scheme)) × (r ≤ 68) ⌝ }
+{
+    4 + 16 * rows_stored(scheme)
+}
+
+// Where the last record starts: past the header and the records of p charged gates.
+pub fn last_start(scheme: u8, p: usize) -> usize
+    requires { ⌜ p ≤ 65535 ⌝ }
+    ensures { λ r. ⌜ (r ≡ lastStart scheme p) × (r ≤ 4456389) ⌝ }
+{
+    9 + p * record_length(scheme)
+}
+
+// The material's length 11+m+p(4+16r), for m outputs and p charged gates: the last record has its mark and m bytes.
 pub fn material_length(scheme: u8, m: usize, p: usize) -> usize
     requires { ⌜ (m ≤ 65535) × (p ≤ 65535) ⌝ }
     ensures { λ r. ⌜ r ≡ materialLength scheme m p ⌝ }
 {
-    let r = rows_stored(scheme);
-    11 + m + p * (4 + 16 * r)
+    last_start(scheme, p) + 2 + m
 }
 
 // Whether a material is well-formed for an accepted circuit of these sizes, or the first of refusals 12 to 18.

@@ -3,11 +3,11 @@
 // apart and calls one of those; its proof is a walk of its steps by hand, and above `first_record`, `found_at` and `record_at` nobody
 // needs one.
 ghost use mathlib.Core.Path.{_≡_};
-ghost use Prim.Native.Nat.{_+_, _≤_, _<_};
+ghost use Prim.Native.Nat.{_+_, _≤_};
 ghost use lib.ListN.{length};
-ghost use Rattle.material.specs.Reader.{recordBytes, gateStanding, standingAt, pastAt, recordOf};
+ghost use Rattle.material.specs.Reader.{gateStanding, standingAt, pastAt, recordOf};
 use crate::marks::mark_at;
-use crate::rows_stored;
+use crate::record_length;
 use buffer::read16;
 use model::Wire;
 
@@ -35,21 +35,13 @@ pub struct Record {
     pub next: usize,
 }
 
-// The bytes of a gate's record: mark and wire number, and the rows of the material's scheme.
-fn record_bytes(material: &[u8]) -> usize
-    requires { ⌜ 2 < length (now material) ⌝ }
-    ensures { λ r. ⌜ (r ≡ recordBytes (now (material .entry))) × (r ≤ 68) ⌝ }
-{
-    4 + 16 * rows_stored(material[2])
-}
-
 // A gate's record at a place where its mark stands.
 fn gate_standing(material: &[u8], at: usize) -> Standing
     requires { ⌜ at + 4 ≤ length (now material) ⌝ }
     ensures { λ r. ⌜ r ≡ gateStanding (now (material .entry)) at ⌝ }
 {
     let own = Wire(read16(material, at + 2));
-    if material.len() - at < record_bytes(material) {
+    if material.len() - at < record_length(material[2]) {
         Standing::Cut(own)
     } else {
         Standing::Gate(own)
@@ -85,7 +77,7 @@ pub fn past_at(material: &[u8], at: usize) -> usize
     ensures { λ r. ⌜ r ≡ pastAt (now (material .entry)) at ⌝ }
 {
     match standing_at(material, at) {
-        Standing::Gate(_) => at + record_bytes(material),
+        Standing::Gate(_) => at + record_length(material[2]),
         Standing::Cut(_) => at,
         Standing::Last => material.len(),
         Standing::Nothing => at,

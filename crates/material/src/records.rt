@@ -1,6 +1,6 @@
 // The row records of a material, from one to the next: refusal 17 (01, Material; Turned down, by number).
 ghost use mathlib.Core.Path.{_≡_};
-ghost use Prim.Native.Nat.{_+_, _*_, _≤_, _<_};
+ghost use Prim.Native.Nat.{_+_, _≤_, _<_};
 ghost use lib.ListN.{length};
 ghost use Rattle.model.specs.Refusals.{rowRecordAt};
 ghost use Rattle.material.specs.Answers.{Filed, AtGate, stepOf, nextAnswer, gateAnswer, recordsAnswer};
@@ -34,13 +34,13 @@ impl Cursor {
         Cursor { at: 9 }
     }
 
-    // Past a row record: mark and wire number, 4 bytes, and its rows. The place still fits a usize.
-    pub fn past(self, rows: usize) -> Cursor
-        requires { ⌜ self .at + 4 + 16 * rows < 18446744073709551616 ⌝ }
-        ensures { λ r. ⌜ r .at ≡ self .at + 4 + 16 * rows ⌝ }
+    // Past a row record of so many bytes. The place still fits a usize.
+    pub fn past(self, bytes: usize) -> Cursor
+        requires { ⌜ self .at + bytes < 18446744073709551616 ⌝ }
+        ensures { λ r. ⌜ r .at ≡ self .at + bytes ⌝ }
     {
         Cursor {
-            at: self.at + 4 + 16 * rows,
+            at: self.at + bytes,
         }
     }
 }

@@ -153,7 +153,7 @@ module _ (c seed : List ℕ) (scheme : ℕ) (values : List ℕ) (allowed : Allow
   unfolding chainMaterial
   material-fine =
       let h = accepted-header c (allowed .accepted) .sizes in
-      own-material γ (allowed .scheme-low) (allowed .scheme-high) (rw wires-many (h .sum)) (rw (outputs-many c) (omega (arith, h .m-high, h .sum)))
+      own-material γ (allowed .known) (rw wires-many (h .sum)) (rw (outputs-many c) (omega (arith, h .m-high, h .sum)))
 
   bits-fine : bitsVerdict values ≡ fine
   unfolding valueVerdict refuse
@@ -166,7 +166,7 @@ module _ (c seed : List ℕ) (scheme : ℕ) (values : List ℕ) (allowed : Allow
   unfolding garbleVerdict encodeVerdict evaluateVerdict decodeVerdict seedVerdict schemeVerdict tokensVerdict refuse _then_
   only-room = record {
     garble-room = λ km kz ko.
-        simp (allowed .accepted, eq-eqb _ _ (allowed .seed-bytes), le-leb _ _ (allowed .scheme-low), le-leb _ _ (allowed .scheme-high));
+        simp (allowed .accepted, eq-eqb _ _ (allowed .seed-bytes), le-leb _ _ (allowed .known .low), le-leb _ _ (allowed .known .high));
     encode-room = λ k.
         simp (allowed .accepted, eq-eqb _ _ (allowed .one-each), bits-fine, eq-eqb _ _ zeros-front, eq-eqb _ _ ones-long);
     evaluate-room = λ k. simp (allowed .accepted, eq-eqb _ _ inputs-long, material-fine);

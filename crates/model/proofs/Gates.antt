@@ -7,7 +7,7 @@ use lib.Seq.{drop-at, drop-drop}
 use Rattle.model.specs.Circuit.{Kind, charged, free, refused, kindOf, value}
 use Rattle.model.specs.Aes.{Block}
 use Rattle.model.specs.Tokens.{Garbling, freeZero, freeToken}
-use Rattle.model.specs.Scheme.{Site, Scheme}
+use Rattle.model.specs.Scheme.{Site, Scheme, recordLength}
 use Rattle.model.specs.Garbling.{schemeOf, zeroAt}
 use Rattle.model.specs.Material.{joinBlocks, recordOf}
 use Rattle.model.specs.Evaluation.{openAt, past}
@@ -19,10 +19,6 @@ use Rattle.model.proofs.Blocks.{join-length, cut-join-append}
 use Rattle.model.proofs.FreeGates.{free-gate-evaluates}
 use Rattle.model.proofs.Sound.{Sound}
 use Rattle.model.proofs.Schemes.{scheme-sound}
-
--- the bytes of a charged gate's record: mark and wire number, and its rows
-abbrev pub recordLength : Scheme → ℕ
-recordLength S = 4 + 16 * S .stored
 
 -- ---- widths
 
@@ -49,7 +45,7 @@ module _ (γ : Garbling) where
 
   -- past it stands what comes after it
   pub past-record : (k : Kind) (s : Site) (rest : List ℕ) → past S k (recordOf γ k s ++ rest) ≡ rest
-  unfolding past recordOf
+  unfolding past recordOf recordLength
   past-record (charged u v x) s rest =
       rw (← drop-drop (16 * S .stored) 4) (drop-at (joinBlocks (S .rows s)) rest (16 * S .stored) (join-length (sound .rows-wide s)))
   past-record (free p q c) s rest = refl

@@ -1,5 +1,5 @@
 -- As many tokens as wires, each of 16 bytes, and material as long as document 01 says. Assumes nothing.
-use Prim.Native.Nat.{ℕ, zero, suc, _+_, _*_, _≤_}
+use Prim.Native.Nat.{ℕ, zero, suc, _+_, _*_}
 use native.Mathlib.Nat.{add-zero, add-suc, suc-add}
 use native.Mathlib.Omega.{arith}
 use mathlib.Core.Path.{_≡_, refl}
@@ -10,7 +10,7 @@ use Rattle.model.specs.Bytes.{from}
 use Rattle.model.specs.Circuit.{Kind, charged, free, refused, kindOf, charge, charges, wires}
 use Rattle.model.specs.Aes.{Block}
 use Rattle.model.specs.Tokens.{Garbling, inputZeros, oneToken}
-use Rattle.model.specs.Scheme.{Site, Scheme}
+use Rattle.model.specs.Scheme.{Site, Scheme, recordLength}
 use Rattle.model.specs.Garbling.{schemeOf, siteOf, zeroStep, zeroTokens, inputOnes}
 use Rattle.model.specs.Material.{materialLength, header, recordOf, records, lastRecord, material}
 use Rattle.model.specs.Evaluation.{openStep, past, run}
@@ -18,8 +18,8 @@ use Rattle.model.proofs.Xor.{⊕-length}
 use Rattle.model.proofs.Tokens.{seedBlock-length}
 use Rattle.model.proofs.Blocks.{Blocks, none, more, blocks-snoc, blocks-map, join-length}
 use Rattle.model.proofs.Sound.{Sound}
-use Rattle.model.proofs.Schemes.{scheme-sound, rows-stored}
-use Rattle.model.proofs.Gates.{recordLength, zero-at-wide, open-at-wide}
+use Rattle.model.proofs.Schemes.{scheme-sound}
+use Rattle.model.proofs.Gates.{zero-at-wide, open-at-wide}
 
 -- ---- evaluation's tokens, over anyone's rows
 
@@ -68,7 +68,7 @@ module _ (γ : Garbling) where
   header-length = refl
 
   pub record-length : (k : Kind) (s : Site) → length (recordOf γ k s) ≡ charge k * recordLength (schemeOf (γ .scheme))
-  unfolding recordOf
+  unfolding recordOf recordLength
   record-length (charged u v x) s = simp (join-length (scheme-sound (γ .scheme) .rows-wide s)) (omega arith)
   record-length (free p q c) s = omega arith
   record-length refused s = omega arith
@@ -83,8 +83,6 @@ module _ (γ : Garbling) where
   unfolding lastRecord
   last-length = simp length-map (omega arith)
 
-  pub material-length : 1 ≤ γ .scheme → γ .scheme ≤ 3
-      → length (material γ) ≡ materialLength (γ .scheme) (length (γ .circuit .outputs)) (charges (γ .circuit .gates))
+  pub material-length : length (material γ) ≡ materialLength (γ .scheme) (length (γ .circuit .outputs)) (charges (γ .circuit .gates))
   unfolding material materialLength
-  material-length l h =
-      rw (← rows-stored (γ .scheme) l h) (simp (length-append, header-length, records-length, last-length) (omega arith))
+  material-length = simp (length-append, header-length, records-length, last-length) (omega arith)

@@ -28,6 +28,7 @@ pub mod Accepted
 pub mod Holds
 pub mod Lengths
 pub mod OneMore
+pub mod Places
 pub mod Chain
 pub mod OwnMaterial
 pub mod Records

@@ -9,11 +9,10 @@ use Rattle.model.specs.declared.Gate.{Gate}
 use Rattle.model.specs.Circuit.{Kind, charged, free, refused, kindOf, charge, charges, wires}
 use Rattle.model.specs.Aes.{Block}
 use Rattle.model.specs.Tokens.{Garbling}
-use Rattle.model.specs.Scheme.{Scheme}
+use Rattle.model.specs.Scheme.{Scheme, recordLength}
 use Rattle.model.specs.Garbling.{siteOf, zeroStep}
 use Rattle.model.specs.Material.{recordOf, records}
 use Rattle.model.specs.Evaluation.{openStep, past, run}
-use Rattle.model.proofs.Gates.{recordLength}
 
 pub records-snoc : (γ : Garbling) (gs : List Gate) (g : Gate) (xs : List Block)
     → records γ (gs ++ (g ∷ [])) xs ≡ records γ gs xs ++ recordOf γ (kindOf (g .code)) (siteOf γ (wires (zeroStep γ) gs xs) g)

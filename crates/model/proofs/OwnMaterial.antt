@@ -12,13 +12,12 @@ use Rattle.model.specs.Bytes.{be16, two}
 use Rattle.model.specs.Circuit.{Kind, charged, free, refused, kindOf, charges, codeAt, markAt, gateWire, wire, wires}
 use Rattle.model.specs.Aes.{Block, block}
 use Rattle.model.specs.Tokens.{Garbling, colour, inputZeros}
-use Rattle.model.specs.Garbling.{schemeOf, siteOf, zeroStep, zeroTokens}
-use Rattle.model.specs.Material.{rowsStored, materialLength, header, recordOf, records, lastRecord, material}
-use Rattle.model.specs.Refusals.{fine, refuse, _then_, isCharged, schemeVerdict, rowStart, fileVerdict, rowRecordAt, rowVerdict, lastVerdict, materialVerdict}
+use Rattle.model.specs.Garbling.{Known, siteOf, zeroStep, zeroTokens}
+use Rattle.model.specs.Material.{lastStart, materialLength, header, recordOf, records, lastRecord, material}
+use Rattle.model.specs.Refusals.{fine, refuse, _then_, isCharged, schemeVerdict, circuitSizes, sameSizes, rowStart, fileVerdict, rowRecordAt, rowVerdict, lastByteVerdict, lastVerdict, materialVerdict}
 use Rattle.model.proofs.Verdicts.{first-all}
 use Rattle.model.proofs.Circuits.{wires-length}
 use Rattle.model.proofs.Blocks.{blocks-length}
-use Rattle.model.proofs.Schemes.{rows-stored}
 use Rattle.model.proofs.Lengths.{input-zeros-blocks, header-length, records-length, material-length}
 
 -- ---- bytes read back
@@ -56,7 +55,7 @@ bits-low f h [] i = omega arith
 bits-low f h (w ∷ ws) zero = h w
 bits-low f h (w ∷ ws) (suc i) = bits-low f h ws i
 
-module _ (γ : Garbling) (low : 1 ≤ γ .scheme) (high : γ .scheme ≤ 3) (few : γ .circuit .n + length (γ .circuit .gates) ≤ 65535)
+module _ (γ : Garbling) (known : Known (γ .scheme)) (few : γ .circuit .n + length (γ .circuit .gates) ≤ 65535)
     (few-outputs : length (γ .circuit .outputs) ≤ 65535) where
   abbrev gs : List Gate
   gs = γ .circuit .gates
@@ -67,9 +66,6 @@ module _ (γ : Garbling) (low : 1 ≤ γ .scheme) (high : γ .scheme ≤ 3) (few
   scheme-byte : getD s 2 0 ≡ γ .scheme
   unfolding material header
   scheme-byte = refl
-
-  rows-same : rowsStored (getD s 2 0) ≡ schemeOf (γ .scheme) .stored
-  rows-same = rw scheme-byte (sym (rows-stored (γ .scheme) low high))
 
   -- ---- 12 to 16
 
@@ -90,21 +86,21 @@ module _ (γ : Garbling) (low : 1 ≤ γ .scheme) (high : γ .scheme ≤ 3) (few
   own-q = two-back (length gs) (omega (arith, few))
 
   whole : length s ≡ materialLength (γ .scheme) (length (γ .circuit .outputs)) (charges gs)
-  whole = material-length γ low high
+  whole = material-length γ
 
   long : 9 ≤ length s
   unfolding materialLength
   long = omega (arith, whole)
 
-  file-fine : fileVerdict (γ .circuit) s ≡ fine
-  unfolding fileVerdict schemeVerdict refuse _then_
+  file-fine : fileVerdict (circuitSizes (γ .circuit)) s ≡ fine
+  unfolding fileVerdict circuitSizes sameSizes schemeVerdict refuse _then_
   file-fine =
       simp (
         le-ltb _ _ long,
         own-mark,
         scheme-byte,
-        le-leb _ _ low,
-        le-leb _ _ high,
+        le-leb _ _ (known .low),
+        le-leb _ _ (known .high),
         own-n,
         own-m,
         own-q,
@@ -121,8 +117,8 @@ module _ (γ : Garbling) (low : 1 ≤ γ .scheme) (high : γ .scheme ≤ 3) (few
   front k = header γ ++ records γ (take k gs) (inputZeros γ)
 
   front-long : (k : ℕ) → rowStart (γ .circuit) s k ≡ length (front k)
-  unfolding front rowStart
-  front-long k = rw rows-same (simp (length-append, header-length γ, records-length γ) (omega arith))
+  unfolding front rowStart lastStart
+  front-long k = rw scheme-byte (simp (length-append, header-length γ, records-length γ) (omega arith))
 
   -- the zero tokens of the wires before gate k, and that gate
   before : ℕ → List Block
@@ -171,24 +167,29 @@ module _ (γ : Garbling) (low : 1 ≤ γ .scheme) (high : γ .scheme ≤ 3) (few
   unfolding material front
   last-at = rw take-length
 
-  last-mark : markAt s (rowStart (γ .circuit) s (length gs)) 0x47 0x44 ≡ true
+  -- it starts past the records of all gates
+  last-long : lastStart (getD s 2 0) (charges gs) ≡ length (front (length gs))
+  unfolding rowStart
+  last-long = rw take-length at (front-long (length gs))
+
+  last-mark : markAt s (lastStart (getD s 2 0) (charges gs)) 0x47 0x44 ≡ true
   unfolding markAt lastRecord
   last-mark =
       let p = front (length gs) in
       let g0 : getD (p ++ lastRecord γ) (length p) 0 ≡ 0x47 = getD-append-seam p 0x47 _ 0 in
       let g1 : getD (p ++ lastRecord γ) (length p + 1) 0 ≡ 0x44 = getD-append-add p (lastRecord γ) 1 0 in
-      rw (front-long (length gs), last-at, g0, g1)
+      rw (last-long, last-at, g0, g1)
 
-  last-bit : (i : ℕ) → getD s (rowStart (γ .circuit) s (length gs) + 2 + i) 0 ≤ 1
+  last-bit : (i : ℕ) → getD s (lastStart (getD s 2 0) (charges gs) + 2 + i) 0 ≤ 1
   unfolding lastRecord
   last-bit i =
       let p = front (length gs) in
       let at : length p + 2 + i ≡ length p + suc (suc i) = omega arith in
-      rw (front-long (length gs), last-at, at, getD-append-add p (lastRecord γ) (suc (suc i)) 0)
+      rw (last-long, last-at, at, getD-append-add p (lastRecord γ) (suc (suc i)) 0)
       (bits-low (λ w. colour (wire (block 0) (zeroTokens γ) w)) (λ w. colour-low (wire (block 0) (zeroTokens γ) w)) (γ .circuit .outputs) i)
 
-  last-fine : lastVerdict (γ .circuit) s ≡ fine
-  unfolding lastVerdict refuse _then_
+  last-fine : lastVerdict s (lastStart (getD s 2 0) (charges gs)) (length (γ .circuit .outputs)) ≡ fine
+  unfolding lastVerdict lastByteVerdict refuse _then_
   last-fine = rw last-mark (first-all _ (length (γ .circuit .outputs)) (λ i h. rw (le-ltb _ _ (last-bit i))))
 
   -- ---- all of them

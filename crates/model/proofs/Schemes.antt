@@ -1,15 +1,14 @@
--- The scheme of each scheme byte is sound, over AES as it is. Assumes nothing.
-use Prim.Native.Nat.{ℕ, zero, suc, _≤_}
-use native.Mathlib.Omega.{arith}
-use mathlib.Core.Path.{_≡_, refl}
+-- The scheme of each scheme byte, and that it is sound, over AES as it is. Assumes nothing.
+use Prim.Native.Nat.{ℕ}
+use mathlib.Core.Path.{_≡_}
 use mathlib.Core.Bool.{Bool, true, false, cond}
+use borrow.Author.Tests.{ne-eqb}
 use lib.Dec.{eqb}
 use Rattle.model.specs.Scheme.{Scheme}
 use Rattle.model.specs.Gax.{dualKey, gax}
 use Rattle.model.specs.Gaxr.{gaxr}
 use Rattle.model.specs.HalfGates.{hash, half}
 use Rattle.model.specs.Garbling.{schemeOf}
-use Rattle.model.specs.Material.{rowsStored}
 use Rattle.model.proofs.Xor.{⊕-length, ⊕-zero}
 use Rattle.model.proofs.XorRules.{xors}
 use Rattle.model.proofs.Sound.{Sound}
@@ -24,6 +23,20 @@ dualKey-undoes = record {
   undone = λ A B T Z h. simp xors (⊕-zero Z h);
 }
 
+-- which it is
+module _ (scheme : ℕ) where
+  pub is-gax : scheme ≡ 1 → schemeOf scheme ≡ gax dualKey
+  unfolding schemeOf
+  is-gax e = rw e
+
+  pub is-gaxr : scheme ≡ 2 → schemeOf scheme ≡ gaxr dualKey
+  unfolding schemeOf
+  is-gaxr e = rw e
+
+  pub is-half : (scheme ≡ 1 → ⊥) → (scheme ≡ 2 → ⊥) → schemeOf scheme ≡ half hash
+  unfolding schemeOf
+  is-half p q = simp (ne-eqb _ _ p, ne-eqb _ _ q)
+
 cond-sound : (b : Bool) (S D : Scheme) → Sound S → Sound D → Sound (cond b S D)
 cond-sound true S D s d = s
 cond-sound false S D s d = d
@@ -35,12 +48,3 @@ scheme-sound k =
     cond-sound (eqb k 1) _ _ (gax-sound dualKey dualKey-undoes)
     (cond-sound (eqb k 2) _ _ (gaxr-sound dualKey dualKey-undoes)
     (half-sound hash))
-
--- the rows that the material's length counts are those stored
-pub rows-stored : (k : ℕ) → 1 ≤ k → k ≤ 3 → schemeOf k .stored ≡ rowsStored k
-unfolding schemeOf rowsStored gax gaxr half
-rows-stored zero l h = absurd (omega arith)
-rows-stored (suc zero) l h = refl
-rows-stored (suc (suc zero)) l h = refl
-rows-stored (suc (suc (suc zero))) l h = refl
-rows-stored (suc (suc (suc (suc k)))) l h = absurd (omega arith)

@@ -7,7 +7,7 @@ use lib.ListN.{length, getD, take}
 use Rattle.model.specs.Circuit.{charges, circuitOf, inputs, outputs, gates, wire, plainValues}
 use Rattle.model.specs.Aes.{Block, block}
 use Rattle.model.specs.Tokens.{Garbling, garblingOf, distance, offset}
-use Rattle.model.specs.Garbling.{zeroTokens, inputOnes}
+use Rattle.model.specs.Garbling.{Known, zeroTokens, inputOnes}
 use Rattle.model.specs.Material.{joinBlocks, material, materialLength}
 use Rattle.model.specs.Evaluation.{encodeBytes, evaluateBytes, decodeBytes, tokenAt, outputTokens}
 use Rattle.model.specs.Refusals.{fine, _then_, circuitVerdict, roomVerdict}
@@ -16,8 +16,7 @@ use Rattle.model.specs.Operations.{garbleVerdict, encodeVerdict, evaluat
 -- "every accepted circuit, each scheme, every 16-byte seed and every list of input bits, one for each input"
 pub record Allowed (c seed : List ℕ) (scheme : ℕ) (values : List ℕ) : Type 0 where
   pub accepted : circuitVerdict c ≡ fine
-  pub scheme-low : 1 ≤ scheme
-  pub scheme-high : scheme ≤ 3
+  pub known : Known scheme
   pub seed-bytes : length seed ≡ 16
   pub one-each : length values ≡ inputs c
   pub bits : (i : ℕ) → getD values i 0 ≤ 1

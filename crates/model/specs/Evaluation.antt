@@ -1,12 +1,12 @@
 -- Evaluation of a garbled circuit, over anyone's rows. Document 01, "Tokens", "Scheme 1" to "Scheme 3", "Material" and "Operations".
-use Prim.Native.Nat.{ℕ, zero, suc, _+_, _*_, _-_}
+use Prim.Native.Nat.{ℕ, zero, suc, _*_, _-_}
 use mathlib.Core.List.{List, [], _∷_, _++_, map}
 use lib.ListN.{length, getD, take, drop}
 use Rattle.model.specs.declared.Gate.{Gate}
 use Rattle.model.specs.Circuit.{Circuit, Kind, charged, free, refused, kindOf, wire}
 use Rattle.model.specs.Aes.{Block, block}
 use Rattle.model.specs.Tokens.{colour, decoded, freeToken}
-use Rattle.model.specs.Scheme.{Scheme}
+use Rattle.model.specs.Scheme.{Scheme, recordLength}
 use Rattle.model.specs.Garbling.{own, schemeOf}
 use Rattle.model.specs.Material.{joinBlocks}
 
@@ -33,9 +33,9 @@ module _ (S : Scheme) where
   unfoldable pub openStep : List ℕ → List Block → Gate → Block
   openStep bs ts g = openAt (kindOf (g .code)) (own ts) bs (wire (block 0) ts (g .a .0)) (wire (block 0) ts (g .b .0))
 
-  -- what is left past the gate's record: mark and wire number, 4 bytes, and its rows
+  -- what is left past the gate's record
   unfoldable pub past : Kind → List ℕ → List ℕ
-  past (charged u v x) bs = drop (4 + 16 * S .stored) bs
+  past (charged u v x) bs = drop (recordLength S) bs
   past (free p q c) bs = bs
   past refused bs = bs
 

@@ -1,5 +1,5 @@
 -- All wires garbled: the scheme of a scheme byte, and the zero token of every wire. Document 01, "Tokens" and "Scheme 1" to "Scheme 3".
-use Prim.Native.Nat.{ℕ, suc}
+use Prim.Native.Nat.{ℕ, suc, _≤_}
 use mathlib.Core.Bool.{cond}
 use mathlib.Core.List.{List, map}
 use lib.Dec.{eqb}
@@ -13,7 +13,12 @@ use Rattle.model.specs.Gax.{dualKey, gax}
 use Rattle.model.specs.Gaxr.{gaxr}
 use Rattle.model.specs.HalfGates.{hash, half}
 
--- scheme 1, 2 or 3; no other byte is asked for, since 14 refuses it
+-- "scheme byte (1 to 3)" (01, "Material"): no other byte is asked for, since 14 refuses it
+pub record Known (scheme : ℕ) : Type 0 where
+  pub low : 1 ≤ scheme
+  pub high : scheme ≤ 3
+
+-- scheme 1, 2 or 3
 unfoldable pub schemeOf : ℕ → Scheme
 schemeOf k = cond (eqb k 1) (gax dualKey) (cond (eqb k 2) (gaxr dualKey) (half hash))
 

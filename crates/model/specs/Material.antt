@@ -1,13 +1,13 @@
 -- Document 01, "Material".
 use Prim.Native.Nat.{ℕ, _+_, _*_}
 use mathlib.Core.List.{List, [], _∷_, _++_, map}
-use lib.ListN.{length, getD}
+use lib.ListN.{length}
 use Rattle.model.specs.declared.Gate.{Gate}
 use Rattle.model.specs.Bytes.{two}
 use Rattle.model.specs.Circuit.{Kind, charged, free, refused, kindOf, wire}
 use Rattle.model.specs.Aes.{Block, block}
 use Rattle.model.specs.Tokens.{Garbling, colour, inputZeros}
-use Rattle.model.specs.Scheme.{Site}
+use Rattle.model.specs.Scheme.{Site, recordLength}
 use Rattle.model.specs.Garbling.{schemeOf, siteOf, zeroStep, zeroTokens}
 
 -- blocks, one after the other
@@ -15,13 +15,13 @@ unfoldable pub joinBlocks : List Block → List ℕ
 joinBlocks [] = []
 joinBlocks (x ∷ xs) = x ++ joinBlocks xs
 
--- "its r rows (r = 4, 3, 2": the rows that a charged gate has under scheme 1, 2 and 3; there is no scheme 0
-unfoldable pub rowsStored : ℕ → ℕ
-rowsStored scheme = getD (0 ∷ 4 ∷ 3 ∷ 2 ∷ []) scheme 0
+-- where the last record starts: past the "header of 9 bytes" and the records of p charged gates
+unfoldable pub lastStart : ℕ → ℕ → ℕ
+lastStart scheme p = 9 + p * recordLength (schemeOf scheme)
 
--- "Length 11+m+p(4+16r)"
+-- "Length 11+m+p(4+16r)"; a record has 4+16r bytes
 unfoldable pub materialLength : ℕ → ℕ → ℕ → ℕ
-materialLength scheme m p = 11 + m + p * (4 + 16 * rowsStored scheme)
+materialLength scheme m p = 11 + m + p * recordLength (schemeOf scheme)
 
 module _ (γ : Garbling) where
   -- "Header of 9 bytes: mark 47 48, scheme byte (1 to 3), n, m, q of 2 bytes each."

@@ -5,12 +5,13 @@ use mathlib.Core.Bool.{Bool, true, false, not, _&&_}
 use lib.ListN.{length, getD, take}
 use lib.Dec.{ltb, leb, eqb}
 use Rattle.model.specs.declared.Gate.{Gate}
+use Rattle.model.specs.declared.Sizes.{Sizes}
 use Rattle.model.specs.declared.Refusal.{Refusal}
 use Rattle.model.specs.declared.Refusal.the-variants.{CircuitShort, CircuitMark, Limits, CircuitLength, GateMark, Operands, Code, SeedLength, ValuesLength, Value, TokensLength, MaterialShort, MaterialMark, Scheme, MaterialSizes, MaterialLength, RowRecord, LastRecord, Room, PickWire}
 use Rattle.model.specs.Bytes.{be16}
 use Rattle.model.specs.Circuit as C
 use Rattle.model.specs.Circuit.{Circuit, Kind, kindOf, charges, codeAt, markAt, inputs, outputs, gates, recordAt, gateAt, sizesHold, operandsHold, gateWire}
-use Rattle.model.specs.Material.{rowsStored, materialLength}
+use Rattle.model.specs.Material.{lastStart, materialLength}
 
 -- "A refusal is its number and a place"; `fine` is none
 pub data Verdict : Type 0 where
@@ -151,18 +152,26 @@ schemeVerdict scheme = refuse (not (leb 1 scheme && leb scheme 3)) 14 scheme
 
 -- ---- 12 to 18: the material s, for a circuit. "Material is well-formed for a circuit if none of conditions 12 to 18 holds."
 
--- where the row record of gate k stands, or would stand: past the header and the records of the charged gates before it
-unfoldable pub rowStart : Circuit → List ℕ → ℕ → ℕ
-rowStart c s k = 9 + charges (take k (c .gates)) * (4 + 16 * rowsStored (getD s 2 0))
+-- n, m, q and p of a circuit
+unfoldable pub circuitSizes : Circuit → Sizes
+circuitSizes c = record { n = c .n; m = length (c .outputs); q = length (c .gates); p = charges (c .gates) }
 
--- 12 to 16: the header and the length
-unfoldable pub fileVerdict : Circuit → List ℕ → Verdict
-fileVerdict c s =
+-- the header's n, m and q are these
+unfoldable pub sameSizes : Sizes → List ℕ → Bool
+sameSizes z s = eqb (be16 s 3) (z .n) && eqb (be16 s 5) (z .m) && eqb (be16 s 7) (z .q)
+
+-- 12 to 16: the header and the length, for a circuit of these sizes
+unfoldable pub fileVerdict : Sizes → List ℕ → Verdict
+fileVerdict z s =
     refuse (ltb (length s) 9) 12 (length s)
     then refuse (not (markAt s 0 0x47 0x48)) 13 0
     then schemeVerdict (getD s 2 0)
-    then refuse (not (eqb (be16 s 3) (c .n) && eqb (be16 s 5) (length (c .outputs)) && eqb (be16 s 7) (length (c .gates)))) 15 3
-    then refuse (not (eqb (length s) (materialLength (getD s 2 0) (length (c .outputs)) (charges (c .gates))))) 16 (length s)
+    then refuse (not (sameSizes z s)) 15 3
+    then refuse (not (eqb (length s) (materialLength (getD s 2 0) (z .m) (z .p)))) 16 (length s)
+
+-- where the row record of gate k stands, or would stand: where the last record would start, were the charged gates before it all
+unfoldable pub rowStart : Circuit → List ℕ → ℕ → ℕ
+rowStart c s k = lastStart (getD s 2 0) (charges (take k (c .gates)))
 
 -- the record at an index has the mark 47 54 and this wire number
 unfoldable pub rowRecordAt : List ℕ → ℕ → ℕ → Bool
@@ -173,14 +182,21 @@ unfoldable pub rowVerdict : Circuit → List ℕ → ℕ → Verdict
 rowVerdict c s k =
     refuse (isCharged (kindOf (codeAt c k)) && not (rowRecordAt s (rowStart c s k) (gateWire (c .n) k))) 17 (gateWire (c .n) k)
 
--- 18: "The last record's mark is wrong or a byte of it exceeds 1 (its start)."
-unfoldable pub lastVerdict : Circuit → List ℕ → Verdict
-lastVerdict c s =
-    refuse (not (markAt s (rowStart c s (length (c .gates))) 0x47 0x44)) 18 (rowStart c s (length (c .gates)))
-    then firstOf (λ i. refuse (ltb 1 (getD s (rowStart c s (length (c .gates)) + 2 + i) 0)) 18 (rowStart c s (length (c .gates)))) (length (c .outputs))
+-- 18 of byte i of a last record that starts at an index
+unfoldable pub lastByteVerdict : List ℕ → ℕ → ℕ → Verdict
+lastByteVerdict s start i = refuse (ltb 1 (getD s (start + 2 + i) 0)) 18 start
+
+-- 18 of a last record that starts at an index and has m bytes: "The last record's mark is wrong or a byte of it exceeds 1 (its start)."
+unfoldable pub lastVerdict : List ℕ → ℕ → ℕ → Verdict
+lastVerdict s start m =
+    refuse (not (markAt s start 0x47 0x44)) 18 start
+    then firstOf (lastByteVerdict s start) m
 
 unfoldable pub materialVerdict : Circuit → List ℕ → Verdict
-materialVerdict c s = fileVerdict c s then firstOf (rowVerdict c s) (length (c .gates)) then lastVerdict c s
+materialVerdict c s =
+    fileVerdict (circuitSizes c) s
+    then firstOf (rowVerdict c s) (length (c .gates))
+    then lastVerdict s (lastStart (getD s 2 0) (charges (c .gates))) (length (c .outputs))
 
 -- ---- 19: "An output buffer is too short (bytes needed"
 

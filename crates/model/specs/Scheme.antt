@@ -1,5 +1,5 @@
 -- What a scheme is: what garbling and evaluation do at a charged gate. Document 01, "Scheme 1" to "Scheme 3", each give one.
-use Prim.Native.Nat.{ℕ}
+use Prim.Native.Nat.{ℕ, _+_, _*_}
 use mathlib.Core.List.{List}
 use Rattle.model.specs.Aes.{Block}
 
@@ -17,3 +17,7 @@ pub record Scheme : Type 0 where
   pub zeroToken : Site → Block  -- X of the gate
   pub rows : Site → List Block  -- its rows, in the material's order
   pub opened : ℕ → List Block → Block → Block → Block  -- evaluation at wire g, from the rows and the tokens held on a and b
+
+-- "mark 47 54, its wire number (2 bytes), its r rows" (01, "Material"): the bytes of a charged gate's record
+unfoldable pub recordLength : Scheme → ℕ
+recordLength S = 4 + 16 * S .stored

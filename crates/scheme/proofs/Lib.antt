@@ -1,5 +1,5 @@
--- Laws that the proofs of the functions cite, and what each scheme does to open a gate.
+-- Laws that the proofs of the functions cite.
 pub mod BitLaws
 mod PieceLaws
 mod GateLaws
-pub mod Opened
+mod RowLaws

@@ -4,6 +4,7 @@ mod cipher; // the dual-key cipher, the hash, and a bit times a block
 mod free; // free gates
 mod gax; // schemes 1 and 2
 mod half; // scheme 3
+mod rows; // a charged gate, opened with its rows in the material
 
 use block::Block;
 pub use cipher::Answers;
@@ -16,17 +17,16 @@ pub use free::free_zero;
 pub use gax::garble_gax;
 pub use gax::garble_gaxr;
 pub use gax::open_row;
-pub use gax::row_index;
 pub use half::garble_half;
 pub use half::open_half;
 use model::Truth;
 use model::Wire;
+pub use rows::open_charged;
 ghost use mathlib.Core.Path.{_≡_};
-ghost use Prim.Native.Nat.{_≤_};
 ghost use Rattle.aes.specs.Tables.{IsTTables};
 ghost use Rattle.model.specs.Aes.{keyExpansion, fixedKey};
 ghost use Rattle.model.specs.Circuit.{charged, kindOf};
-ghost use Rattle.model.specs.Garbling.{schemeOf};
+ghost use Rattle.model.specs.Garbling.{Known, schemeOf};
 ghost use Rattle.model.specs.Calls.{garbleAsks};
 ghost use Rattle.scheme.specs.Garbled.{site, GarbledIs};
 
@@ -69,7 +69,7 @@ pub fn garble_gate(
 ) -> GarbledGate
     requires { ⌜ IsTTables (now m) ⌝ }
     requires { ⌜ now w ≡ keyExpansion fixedKey ⌝ }
-    requires { ⌜ (1 ≤ scheme) × (scheme ≤ 3) ⌝ }
+    requires { ⌜ Known scheme ⌝ }
     requires { ⌜ kindOf (s .code) ≡ charged (u .0) (v .0) (own .0) ⌝ }
     ensures { λ r. ⌜ GarbledIs (schemeOf scheme) (garbleAsks scheme (site s)) (site s) r ⌝ }
 {

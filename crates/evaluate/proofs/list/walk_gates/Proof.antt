@@ -404,7 +404,7 @@ module _ {M : Type 1} (𝓤 : URA M) (H : Heap 𝓤) (A : Atoms 𝓤) (W : Given
   abbrev asked-1 : ℕ → GName → List ℕ → Item 𝓤
   asked-1 ν δ d = (‵ OwnI ⊛ (‵ OwnM ⊛ (‵ (MutSlice (named 0) (ν ∷ []) u8 .own (out δ d) (vo (length d) ∷ [])) ⊛ (‵ (flft κ₃ q₃) ⊛ (‵ (flft κ₄ q₄) ⊛ ‵ (flft (ν ∷ []) fullShare))))))
 
-  goes-1 : (ν : ℕ) (δ : GName) (s : Walk) (d : List ℕ) → Checks (now xi) (now xm) (s .k) (s .z) (s .rows) (s .here .at + charge (kindOf (g-at s .code)) * (4 + 16 * s .rows)) → Is S.the-row s (val-of s ∷ []) → Is T.the-row (g-at s) (T′.lowered (g-at s) ∷ [])
+  goes-1 : (ν : ℕ) (δ : GName) (s : Walk) (d : List ℕ) → Checks (now xi) (now xm) (s .k) (s .z) (s .stride) (s .here .at + charge (kindOf (g-at s .code)) * s .stride) → Is S.the-row s (val-of s ∷ []) → Is T.the-row (g-at s) (T′.lowered (g-at s) ∷ [])
       → ent 𝓤 (⋆ 𝓤 H A (asked-1 ν δ d ∷ [])) (Check 𝓤 H A mem run .pre (to-1 ν δ s d))
   goes-1 ν δ s d asks is p =
       qed W (asked-1 ν δ d ∷ []) ∵ says ! asks $
@@ -824,7 +824,7 @@ module _ {M : Type 1} (𝓤 : URA M) (H : Heap 𝓤) (A : Atoms 𝓤) (W : Given
           scaled : package.mir.Val.Fits w64 (s .k * 6)
           scaled = scaled-fits (s .k) (length gs) 6 within (room-g .1)
 
-          asks : Is T.the-row (g-at s) (T′.lowered (g-at s) ∷ []) → Checks (now xi) (now xm) (s .k) (s .z) (s .rows) (s .here .at + charge (kindOf (g-at s .code)) * (4 + 16 * s .rows))
+          asks : Is T.the-row (g-at s) (T′.lowered (g-at s) ∷ []) → Checks (now xi) (now xm) (s .k) (s .z) (s .stride) (s .here .at + charge (kindOf (g-at s .code)) * s .stride)
           asks p = G.asks-1 n m gs (now xi) (now xm) (now xo) n-fits m-fits (suc left) s d (f .0) (gate-fits (g-at s) p) at-pass
 
           goes-next : Is T.the-row (g-at s) (T′.lowered (g-at s) ∷ []) → (r : Walk) → (zs : Lasts-1) → length (last-1 zs) ≡ length d → CheckLeads (now xi) (now xm) s (g-at s) d r (last-1 zs)

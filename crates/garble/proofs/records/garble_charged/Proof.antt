@@ -6,7 +6,7 @@ use Rattle.garble.proofs.records.garble_charged.Tie as tie
 garble-gate-requires : tie.Need-garble-gate-requires
 garble-gate-requires c κs =
     let pre = c .before .before .before .before .before .before .before .pre in
-    (pre .0, (pre .1 .0, ((pre .1 .1 .scheme-low, pre .1 .1 .scheme-high), pre .1 .1 .is-charged)))
+    (pre .0, (pre .1 .0, (pre .1 .1 .known, pre .1 .1 .is-charged)))
 
 store-requires : tie.Need-store-requires
 store-requires c κs = c .before .before .before .before .before .before .before .before .before .pre .1 .1 .slot-room

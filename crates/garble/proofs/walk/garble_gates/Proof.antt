@@ -6,7 +6,7 @@ use Rattle.garble.proofs.walk.garble_gates.Tie as tie
 
 abbrev Inv-loop : tie.InvT-loop
 Inv-loop t w ws seed plan circuit q material₀ zeros₀ k₀ at₀ calls₀ material zeros k at calls =
-    Walking circuit seed (plan .scheme) (plan .stored) q material₀ zeros₀ k at calls material zeros
+    Walking circuit seed (plan .scheme) q material₀ zeros₀ k at calls material zeros
 
 abbrev μ-loop : tie.MeasureT-loop
 μ-loop t w ws seed plan circuit q material₀ zeros₀ k₀ at₀ calls₀ material zeros k at calls = q - k

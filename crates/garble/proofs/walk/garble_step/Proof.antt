@@ -9,18 +9,17 @@ garble-charged-requires c κs =
     let pre = c .before .before .before .before .before .before .before .before .before .before .before .before .pre in
     (pre .0, (pre .1 .0, step-charged-start _ _ _ _ _ _ _ (c .before .before .before .before .before .before .before .before .before .before .before .before .pre .1 .1 .0) _ _ _ _ (c .before .before .before .before .before .before .before .before .before .before .before .before .pre .1 .1 .1) _ (c .before .before .before .before .before .before .read-operands .ensures) _ (c .before .before .before .before .before .code-kind .ensures) _ _ _ (c .before .before .before .u .given .1)))
 
-head-fits : tie.Need-add-at
-head-fits c = omega (arith, step-small _ _ _ _ _ _ _ (c .before .before .before .before .before .before .before .before .before .before .before .before .before .before .before .before .before .pre .1 .1 .0) _ _ _ _ (c .before .before .before .before .before .before .before .before .before .before .before .before .before .before .before .before .before .pre .1 .1 .1))
-
-rows-fit : tie.Need-mul-at
-rows-fit c = omega (arith, step-small _ _ _ _ _ _ _ (c .before .before .before .before .before .before .before .before .before .before .before .before .before .before .before .before .before .before .pre .1 .1 .0) _ _ _ _ (c .before .before .before .before .before .before .before .before .before .before .before .before .before .before .before .before .before .before .pre .1 .1 .1))
-
-next-fits : tie.Need-add-at-2
-next-fits c = omega (arith, step-small _ _ _ _ _ _ _ (c .before .before .before .before .before .before .before .before .before .before .before .before .before .before .before .before .before .before .pre .1 .1 .0) _ _ _ _ (c .before .before .before .before .before .before .before .before .before .before .before .before .before .before .before .before .before .before .pre .1 .1 .1))
+-- the place past the record
+next-fits : tie.Need-add-at
+next-fits c = omega (
+  arith,
+  step-small _ _ _ _ _ _ _ (c .before .before .before .before .before .before .before .before .before .before .before .before .before .before .before .before .before .before .pre .1 .1 .0) _ _ _ _ (c .before .before .before .before .before .before .before .before .before .before .before .before .before .before .before .before .before .before .pre .1 .1 .1),
+  c .record-length .ensures .1,
+)
 
 returns : tie.Need-returns
 returns c =
-    step-charged _ _ _ _ _ _ _ (c .before .before .before .before .before .before .before .before .before .before .before .before .before .before .before .before .before .before .pre .1 .1 .0) _ _ _ _ (c .before .before .before .before .before .before .before .before .before .before .before .before .before .before .before .before .before .before .pre .1 .1 .1) _ (c .before .before .before .before .before .before .before .before .before .before .before .before .read-operands .ensures) _ (c .before .before .before .before .before .before .before .before .before .before .before .code-kind .ensures) _ _ _ (c .before .before .before .before .before .before .before .before .before .u .given .1) _ _ _ (c .before .before .before .before .before .garble-charged .ensures)
+    step-charged _ _ _ _ _ _ _ (c .before .before .before .before .before .before .before .before .before .before .before .before .before .before .before .before .before .before .pre .1 .1 .0) _ _ _ _ (c .before .before .before .before .before .before .before .before .before .before .before .before .before .before .before .before .before .before .pre .1 .1 .1) _ (c .before .before .before .before .before .before .before .before .before .before .before .before .read-operands .ensures) _ (c .before .before .before .before .before .before .before .before .before .before .before .code-kind .ensures) _ _ _ (c .before .before .before .before .before .before .before .before .before .u .given .1) _ (c .record-length .ensures .0) _ _ _ (c .before .before .before .before .before .garble-charged .ensures)
 
 free-zero-requires : tie.Need-free-zero-requires
 free-zero-requires c κs = (
@@ -42,5 +41,5 @@ pub garble-step-spec : {M : Type 1} → statement M
 garble-step-spec =
     tie.close
     (tie.spec (λ c κs. search step-operands) (λ c. search needs) (λ c. search needs) (λ c κs. search needs) (λ c. search needs) garble-charged-requires
-    head-fits rows-fit next-fits (λ c. search needs) free-zero-requires store-requires (λ c. search needs)
+    (λ c κs. search needs) next-fits (λ c. search needs) free-zero-requires store-requires (λ c. search needs)
     (λ c. search needs) (λ c. search needs) returns (λ c. search needs) returns-2 (λ c. search needs) returns-3)

@@ -6,6 +6,6 @@ use Rattle.material.proofs.reader.past_at.Tie as tie
 pub past-at-spec : {M : Type 1} → statement M
 past-at-spec =
     tie.close
-    (tie.spec (λ c κs. search needs) (λ c. search needs) (λ c κs. search past-cases) (λ c. search (past-cases, needs))
+    (tie.spec (λ c κs. search needs) (λ c. search needs) (λ c. search past-cases) (λ c κs. search needs) (λ c. search (past-cases, needs))
     (λ c. search needs) (λ c. search needs) (λ c. search needs) (λ c. search past-cases) (λ c. search past-cases)
     (λ c. search past-cases) (λ c. search past-cases))

@@ -1,7 +1,7 @@
 use borrow.Author.Needs.{needs}
-use Rattle.evaluate.proofs.GateLaws.{held-cases}
-use Rattle.evaluate.proofs.gate.held_row.Statement.{statement}
-use Rattle.evaluate.proofs.gate.held_row.Tie as tie
+use Rattle.scheme.proofs.RowLaws.{held-cases}
+use Rattle.scheme.proofs.rows.held_row.Statement.{statement}
+use Rattle.scheme.proofs.rows.held_row.Tie as tie
 
 pub held-row-spec : {M : Type 1} → statement M
 held-row-spec =

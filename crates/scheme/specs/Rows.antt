@@ -1,11 +1,11 @@
--- One gate, evaluated: the room that its record has in the material s, and what is left. Document 01, "Scheme 1" to "Scheme 3".
-use Prim.Native.Nat.{ℕ, _+_, _*_, _≤_}
+-- The rows of a charged gate in the material s, as they are loaded. Document 01, "Scheme 1" to "Scheme 3" and "Material".
+use Prim.Native.Nat.{ℕ, _+_, _≤_}
 use mathlib.Core.Path.{_≡_}
 use mathlib.Core.List.{List, _∷_}
 use lib.ListN.{length, getD, drop}
-use Rattle.model.specs.Circuit.{kindOf, charge}
 use Rattle.model.specs.Aes.{Block, block}
-use Rattle.model.specs.Garbling.{schemeOf}
+use Rattle.model.specs.Scheme.{recordLength}
+use Rattle.model.specs.Garbling.{Known, schemeOf}
 use Rattle.model.specs.Evaluation.{cut}
 
 -- room for rows 1 to 3 of scheme 2, from an index on; i is one of them, or 0
@@ -25,12 +25,5 @@ pub record HeldRow (scheme first i : ℕ) (s : List ℕ) (r : Block) : Type 0 wh
 
 -- room for a record of a scheme at an index
 pub record RecordRoom (scheme at : ℕ) (s : List ℕ) : Type 0 where
-  pub low : 1 ≤ scheme
-  pub high : scheme ≤ 3
-  pub room : at + (4 + 16 * schemeOf scheme .stored) ≤ length s
-
--- the same where a gate of this code is charged; a free gate has no record
-pub record GateRoom (scheme code at : ℕ) (s : List ℕ) : Type 0 where
-  pub low : 1 ≤ scheme
-  pub high : scheme ≤ 3
-  pub room : at + charge (kindOf code) * (4 + 16 * schemeOf scheme .stored) ≤ length s
+  pub known : Known scheme
+  pub room : at + recordLength (schemeOf scheme) ≤ length s

@@ -1,5 +1,4 @@
-// One charged gate, evaluated: its token, from the tokens held on its operands (01, Tokens and Scheme 1 to Scheme 3).
-// Whatever enciphers is lent the T-tables t and the schedule w of π's fixed key.
+// One charged gate, opened: its token, from its rows in the material and the tokens held on its operands (01, Scheme 1 to Scheme 3).
 ghost use mathlib.Core.Path.{_≡_};
 ghost use mathlib.Core.List.{_∷_};
 ghost use lib.ListN.{getD, drop};
@@ -8,15 +7,15 @@ ghost use Rattle.model.specs.Aes.{keyExpansion, fixedKey, block};
 ghost use Rattle.model.specs.Garbling.{schemeOf};
 ghost use Rattle.model.specs.Evaluation.{cut};
 ghost use Rattle.model.specs.Calls.{evaluateAsks};
 ghost use Rattle.scheme.specs.Garbled.{OpenedIs};
-ghost use Rattle.evaluate.specs.Gate.{RowRoom, RecordRoom, HeldRoom, HeldRow};
+ghost use Rattle.scheme.specs.Rows.{RowRoom, RecordRoom, HeldRoom, HeldRow};
+use crate::OpenedGate;
+use crate::gax::open_row;
+use crate::gax::row_index;
+use crate::half::open_half;
 use block::Block;
 use block::load;
 use model::Wire;
-use scheme::OpenedGate;
-use scheme::open_half;
-use scheme::open_row;
-use scheme::row_index;
 
 // Row i of scheme 2, whose rows 1 to 3 start at an index: row 0 is not stored, and block 0 is taken for it.
 fn reduced_row(material: &[u8], first: usize, i: usize) -> Block
@@ -44,7 +43,7 @@ fn held_row(scheme: u8, material: &[u8], first: usize, i: usize) -> Block
 // The token of charged gate g, whose record stands at an index, and the calls of π made. Schemes 1 and 2 load the one row that the
 // colours point at.
 pub fn open_charged(
-    t: &[u32; 1024],
+    m: &[u32; 1024],
     w: &[u8; 176],
     scheme: u8,
     g: Wire,
@@ -53,7 +52,7 @@ pub fn open_charged(
     material: &[u8],
     at: usize,
 ) -> OpenedGate
-    requires { ⌜ IsTTables (now t) ⌝ }
+    requires { ⌜ IsTTables (now m) ⌝ }
     requires { ⌜ now w ≡ keyExpansion fixedKey ⌝ }
     requires { ⌜ RecordRoom scheme at (now material) ⌝ }
     ensures { λ r. ⌜ OpenedIs (schemeOf scheme .opened (g .0) (cut (schemeOf scheme .stored) (drop 4 (drop at (now (material .entry))))) (a .bytes) (b .bytes)) (evaluateAsks scheme (g .0) (a .bytes) (b .bytes)) r ⌝ }
@@ -62,8 +61,8 @@ pub fn open_charged(
     if scheme == 3 {
         let rg = load(material, first);
         let re = load(material, first + 16);
-        return open_half(t, w, g, rg, re, a, b);
+        return open_half(m, w, g, rg, re, a, b);
     }
     let row = held_row(scheme, material, first, row_index(a, b));
-    open_row(t, w, g, a, b, row)
+    open_row(m, w, g, a, b, row)
 }

@@ -1,7 +1,7 @@
 use borrow.Author.Needs.{needs}
-use Rattle.evaluate.proofs.GateLaws.{charged-opens, charged-rooms}
-use Rattle.evaluate.proofs.gate.open_charged.Statement.{statement}
-use Rattle.evaluate.proofs.gate.open_charged.Tie as tie
+use Rattle.scheme.proofs.RowLaws.{charged-opens, charged-rooms}
+use Rattle.scheme.proofs.rows.open_charged.Statement.{statement}
+use Rattle.scheme.proofs.rows.open_charged.Tie as tie
 
 pub open-charged-spec : {M : Type 1} → statement M
 open-charged-spec =

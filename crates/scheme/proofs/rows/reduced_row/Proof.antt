@@ -1,7 +1,7 @@
 use borrow.Author.Needs.{needs}
-use Rattle.evaluate.proofs.GateLaws.{row-cases}
-use Rattle.evaluate.proofs.gate.reduced_row.Statement.{statement}
-use Rattle.evaluate.proofs.gate.reduced_row.Tie as tie
+use Rattle.scheme.proofs.RowLaws.{row-cases}
+use Rattle.scheme.proofs.rows.reduced_row.Statement.{statement}
+use Rattle.scheme.proofs.rows.reduced_row.Tie as tie
 
 pub reduced-row-spec : {M : Type 1} → statement M
 reduced-row-spec =

@@ -1,29 +1,25 @@
--- One gate, evaluated: the rows that are loaded from its record, and its token by each scheme; and a free gate's token. Assumes nothing.
+-- One charged gate, opened: the rows that are loaded from its record, and its token by each scheme. Assumes nothing.
 use Prim.Native.Nat.{ℕ, zero, suc, _+_, _*_, _-_, _≤_, _<_}
 use native.Mathlib.Decide.{decLt}
 use native.Mathlib.Omega.{arith}
 use mathlib.Core.Path.{_≡_, refl, sym, ap, _∙_}
-use mathlib.Core.Bool.{false, false≢true}
 use mathlib.Core.List.{List, _∷_}
-use borrow.Author.Tests.{ne-eqb}
 use lib.ListN.{length, getD, take, drop}
 use lib.Seq.{drop-drop}
-use Rattle.model.specs.Circuit.{Kind, charged, free, refused, charge}
 use Rattle.model.specs.Aes.{Block, block}
-use Rattle.model.specs.Scheme.{Scheme}
-use Rattle.model.specs.Refusals.{isRefused}
-use Rattle.model.specs.Tokens.{colour, freeToken}
+use Rattle.model.specs.Scheme.{recordLength}
+use Rattle.model.specs.Tokens.{colour}
 use Rattle.model.specs.Gax.{dualKey, openRow, gax}
 use Rattle.model.specs.Gaxr.{gaxr}
 use Rattle.model.specs.HalfGates.{hash, joined, half}
 use Rattle.model.specs.Garbling.{schemeOf}
-use Rattle.model.specs.Evaluation.{cut, openAt}
+use Rattle.model.specs.Evaluation.{cut}
 use Rattle.model.specs.Calls.{sealingHeld, hashingsHeld, evaluateAsks}
 use Rattle.model.proofs.Blocks.{cut-at}
-use Rattle.circuit.specs.Answers.{takesA, takesB}
+use Rattle.model.proofs.Schemes.{is-gax, is-gaxr, is-half}
 use Rattle.scheme.specs.declared.OpenedGate.{OpenedGate}
 use Rattle.scheme.specs.Garbled.{OpenedIs}
-use Rattle.evaluate.specs.Gate.{RowRoom, RecordRoom, HeldRoom, HeldRow}
+use Rattle.scheme.specs.Rows.{RowRoom, RecordRoom, HeldRoom, HeldRow}
 
 -- row j of k rows that start at an index
 row-at : (k j first : ℕ) (s : List ℕ) → j < k → take 16 (drop (first + 16 * j) s) ≡ getD (cut k (drop first s)) j (block 0)
@@ -43,20 +39,6 @@ module _ (first i : ℕ) (s : List ℕ) (x : Block) where
   row-kept r h f = f ∙ kept first i s (r .number) h
 
 pub ruleset row-cases = (row-left-out, row-kept)
-
--- ---- the scheme of a scheme byte
-module _ (scheme : ℕ) where
-  pub is-gax : scheme ≡ 1 → schemeOf scheme ≡ gax dualKey
-  unfolding schemeOf
-  is-gax e = rw e
-
-  pub is-gaxr : scheme ≡ 2 → schemeOf scheme ≡ gaxr dualKey
-  unfolding schemeOf
-  is-gaxr e = rw e
-
-  pub is-half : (scheme ≡ 1 → ⊥) → (scheme ≡ 2 → ⊥) → schemeOf scheme ≡ half hash
-  unfolding schemeOf
-  is-half p q = simp (ne-eqb _ _ p, ne-eqb _ _ q)
 
 -- ---- held_row
 module _ (scheme first i : ℕ) (s : List ℕ) (x : Block) where
@@ -78,11 +60,11 @@ module _ (scheme at : ℕ) (s : List ℕ) (room : RecordRoom scheme at s) where
     three = is-half scheme (λ p. omega arith) (λ p. omega arith)
 
     pub half-room-g : at + 4 + 16 ≤ length s
-    unfolding half
+    unfolding half recordLength
     half-room-g = let r = rw three at (room .room) in omega arith
 
     pub half-room-e : at + 4 + 16 + 16 ≤ length s
-    unfolding half
+    unfolding half recordLength
     half-room-e = let r = rw three at (room .room) in omega arith
 
     asks-two : (g : ℕ) (a b : Block) → evaluateAsks scheme g a b ≡ hashingsHeld g a b
@@ -100,16 +82,16 @@ module _ (scheme at : ℕ) (s : List ℕ) (room : RecordRoom scheme at s) where
 
   module _ (n : scheme ≡ 3 → ⊥) where
     one : scheme < 2 → scheme ≡ 1
-    one l = omega (arith, room .low)
+    one l = omega (arith, room .known .low)
 
     two : (scheme < 2 → ⊥) → scheme ≡ 2
-    two l = omega (arith, room .high)
+    two l = omega (arith, room .known .high)
 
     not-one : (scheme < 2 → ⊥) → scheme ≡ 1 → ⊥
     not-one l e = l (omega arith)
 
     pub rows-room : (i : ℕ) → i ≤ 3 → HeldRoom scheme (at + 4) i s
-    unfolding gax gaxr
+    unfolding gax gaxr recordLength
     rows-room i h = record { rows = record { number = h; room = short (decLt scheme 2) }; all = long }
       where
         long : scheme ≡ 1 → at + 4 + 64 ≤ length s
@@ -148,15 +130,3 @@ module _ (scheme at : ℕ) (s : List ℕ) (room : RecordRoom scheme at s) where
 pub ruleset charged-rooms = (half-room-g, half-room-e, rows-room)
 
 pub ruleset charged-opens = (half-opens, rows-open)
-
--- ---- a free gate's token
-
--- its own, from the operands that its code takes
-pub free-opened : (S : Scheme) (k : Kind) → isRefused k ≡ false → charge k ≡ 0 → (g : ℕ) (bs : List ℕ) (a b : Block) → openAt S k g bs a b ≡ freeToken (takesA k) (takesB k) a b
-unfolding openAt
-free-opened S (charged u v x) known none g bs a b = absurd (one none)
-  where
-    one : charge (charged u v x) ≡ 0 → ⊥
-    one i = omega arith
-free-opened S (free p q c) known none g bs a b = refl
-free-opened S refused known none g bs a b = absurd (false≢true (sym known))
