@@ -20,8 +20,6 @@ use Rattle.model.specs.declared.Ran.{Ran}
 use Rattle.model.specs.declared.Evaluated.{Evaluated}
 use Rattle.model.specs.Bytes.{be16, over}
 use Rattle.model.specs.Circuit.{circuitOf, inputs, gates, gateAt, markAt, kindOf, charge, sizesHold}
-use Rattle.aes.specs.Tables.{IsTTables}
-use Rattle.model.specs.Aes.{keyExpansion, fixedKey}
 use Rattle.model.specs.Scheme.{recordLength}
 use Rattle.model.specs.Garbling.{schemeOf}
 use Rattle.model.specs.Refusals.{fine, refused, refuse, _then_, firstOf, numberOf, placeOf, verdictOf, headVerdict, gateVerdict, recordVerdict, gatesVerdict, circuitVerdict, tokensVerdict, fileVerdict, materialVerdict, lastVerdict, roomVerdict, rowRecordAt}
@@ -103,38 +101,26 @@ module _ (c ts s o : List ℕ) (left : ℕ) (w : Walk) (d : List ℕ) where
 
   -- it goes on, in one of the passes
   module _ (k : ℕ) (z : Sizes) (here : Cursor) (stride : ℕ) (is-stride : stride ≡ recordLength (schemeOf (getD s 2 0))) (more : k < gates c) where
-    pub goes-0 : GoesTo 0 k z here stride 0 w → Tried c s o left k z (here .at) d → Stands c ts s o left w d
-    goes-0 g t = record {
+    goes : (pass calls : ℕ) → pass ≤ 2 → GoesTo pass k z here stride calls w → (pass ≡ 0 → Tried c s o left k z (here .at) d)
+        → (pass ≡ 1 → Checked c ts s o left k z (here .at) d) → (pass ≡ 2 → Written c ts s o left k z (here .at) calls d) → Stands c ts s o left w d
+    goes pass calls low g t-0 t-1 t-2 = record {
       passes = omega (arith, g .is-pass);
       more = λ _. rw (g .is-k) more;
       strides = λ _. g .is-stride ∙ is-stride;
-      pass-0 = λ _. rw (g .is-k, g .is-z, g .is-here) t;
-      pass-1 = λ e. absurd (omega (arith, g .is-pass));
-      pass-2 = λ e. absurd (omega (arith, g .is-pass));
+      pass-0 = λ e. rw (g .is-k, g .is-z, g .is-here) (t-0 (sym (g .is-pass) ∙ e));
+      pass-1 = λ e. rw (g .is-k, g .is-z, g .is-here) (t-1 (sym (g .is-pass) ∙ e));
+      pass-2 = λ e. rw (g .is-k, g .is-z, g .is-here, g .is-calls) (t-2 (sym (g .is-pass) ∙ e));
       ended = λ e. absurd (omega (arith, g .is-pass));
     }
+
+    pub goes-0 : GoesTo 0 k z here stride 0 w → Tried c s o left k z (here .at) d → Stands c ts s o left w d
+    goes-0 g t = goes 0 0 (omega arith) g (λ _. t) (λ e. absurd (omega arith)) (λ e. absurd (omega arith))
 
     goes-1 : GoesTo 1 k z here stride 0 w → Checked c ts s o left k z (here .at) d → Stands c ts s o left w d
-    goes-1 g t = record {
-      passes = omega (arith, g .is-pass);
-      more = λ _. rw (g .is-k) more;
-      strides = λ _. g .is-stride ∙ is-stride;
-      pass-0 = λ e. absurd (omega (arith, g .is-pass));
-      pass-1 = λ _. rw (g .is-k, g .is-z, g .is-here) t;
-      pass-2 = λ e. absurd (omega (arith, g .is-pass));
-      ended = λ e. absurd (omega (arith, g .is-pass));
-    }
+    goes-1 g t = goes 1 0 (omega arith) g (λ e. absurd (omega arith)) (λ _. t) (λ e. absurd (omega arith))
 
     goes-2 : (calls : ℕ) → GoesTo 2 k z here stride calls w → Written c ts s o left k z (here .at) calls d → Stands c ts s o left w d
-    goes-2 calls g t = record {
-      passes = omega (arith, g .is-pass);
-      more = λ _. rw (g .is-k) more;
-      strides = λ _. g .is-stride ∙ is-stride;
-      pass-0 = λ e. absurd (omega (arith, g .is-pass));
-      pass-1 = λ e. absurd (omega (arith, g .is-pass));
-      pass-2 = λ _. rw (g .is-k, g .is-z, g .is-here, g .is-calls) t;
-      ended = λ e. absurd (omega (arith, g .is-pass));
-    }
+    goes-2 calls g t = goes 2 calls (omega arith) g (λ e. absurd (omega arith)) (λ e. absurd (omega arith)) (λ _. t)
 
 -- ---- evaluate's verdict where a gate has a fault
 by-gate : (c ts s : List ℕ) (room k i x : ℕ) → headVerdict c ≡ fine → gatesVerdict c (inputs c) k ≡ fine → k < gates c
@@ -683,11 +669,3 @@ module _ (t k s d : List ℕ) (w : Walk) (g : Gate) (asked : Writes t k s d w g)
         write-on s w g d d′ there made (rw (e, asked .is-stride) is) (asked .is-stride) r next
 
 pub ruleset write-cases = (write-on-free, write-room, write-fits, write-calls, write-on-charged, charge-cases)
-
--- what is lent
-module _ (t k s d : List ℕ) (w : Walk) (g : Gate) (asked : Writes t k s d w g) where
-  pub lent-t : IsTTables t
-  lent-t = asked .lent .is-t
-
-  pub lent-k : k ≡ keyExpansion fixedKey
-  lent-k = asked .lent .is-k

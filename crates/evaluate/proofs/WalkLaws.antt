@@ -43,10 +43,7 @@ use Rattle.evaluate.specs.Walk.{Operands, GateRoom, TokenStart, TokenIs,
 -- a free gate's token, from the operands that its code takes
 free-opened : (S : Scheme) (k : Kind) → isRefused k ≡ false → charge k ≡ 0 → (g : ℕ) (bs : List ℕ) (a b : Block) → openAt S k g bs a b ≡ freeToken (takesA k) (takesB k) a b
 unfolding openAt
-free-opened S (charged u v x) known none g bs a b = absurd (one none)
-  where
-    one : charge (charged u v x) ≡ 0 → ⊥
-    one i = omega arith
+free-opened S (charged u v x) known none g bs a b = absurd (omega arith)
 free-opened S (free p q c) known none g bs a b = refl
 free-opened S refused known none g bs a b = absurd (false≢true (sym known))
 
@@ -54,27 +51,15 @@ free-opened S refused known none g bs a b = absurd (false≢true (sym known))
 charged-opens : (S : Scheme) (k : Kind) → charge k ≡ 1 → (g : ℕ) (bs : List ℕ) (A B : Block) → openAt S k g bs A B ≡ S .opened g (cut (S .stored) (drop 4 bs)) A B
 unfolding openAt
 charged-opens S (charged u v x) h g bs A B = refl
-charged-opens S (free p q c) h g bs A B = absurd (not-one h)
-  where
-    not-one : charge (free p q c) ≡ 1 → ⊥
-    not-one l = omega arith
-charged-opens S refused h g bs A B = absurd (not-one h)
-  where
-    not-one : charge refused ≡ 1 → ⊥
-    not-one l = omega arith
+charged-opens S (free p q c) h g bs A B = absurd (omega arith)
+charged-opens S refused h g bs A B = absurd (omega arith)
 
 -- and its calls
 charged-calls : (scheme : ℕ) (k : Kind) → charge k ≡ 1 → (g : ℕ) (A B : Block) → evaluateCallsAt scheme k g A B ≡ length (evaluateAsks scheme g A B)
 unfolding evaluateCallsAt
 charged-calls scheme (charged u v x) h g A B = refl
-charged-calls scheme (free p q c) h g A B = absurd (not-one h)
-  where
-    not-one : charge (free p q c) ≡ 1 → ⊥
-    not-one l = omega arith
-charged-calls scheme refused h g A B = absurd (not-one h)
-  where
-    not-one : charge refused ≡ 1 → ⊥
-    not-one l = omega arith
+charged-calls scheme (free p q c) h g A B = absurd (omega arith)
+charged-calls scheme refused h g A B = absurd (omega arith)
 
 -- a free gate has none
 free-calls : (scheme : ℕ) (k : Kind) → charge k ≡ 0 → (g : ℕ) (A B : Block) → 0 ≡ evaluateCallsAt scheme k g A B
@@ -279,30 +264,24 @@ module _ (c s : List ℕ) (n q : ℕ) (o : List ℕ) (start : WalkStart c s n q 
       unfolding over
       token-held w h l = rw (inv .so-far) (token-at-front held w h l _)
 
+      held-a : tokenAt d (gateAt c k .a .0) ≡ wire (block 0) (tokensTo c s (cut n o) k) (gateAt c k .a .0)
+      held-a = let a = operands-held in token-held (gateAt c k .a .0) (a .a-low) (omega (arith, a .order, a .b-high, start .is-n))
+
+      held-b : tokenAt d (gateAt c k .b .0) ≡ wire (block 0) (tokensTo c s (cut n o) k) (gateAt c k .b .0)
+      held-b = let a = operands-held in token-held (gateAt c k .b .0) (omega (arith, a .a-low, a .order)) (omega (arith, a .b-high, start .is-n))
+
+      own-wire : gateWire n k ≡ suc (length (tokensTo c s (cut n o) k))
+      own-wire = omega (arith, blocks-length held)
+
       token-next : openAt (S s) (kindOf (gateAt c k .code)) (gateWire n k) (drop at s) (tokenAt d (gateAt c k .a .0)) (tokenAt d (gateAt c k .b .0))
           ≡ openStep (S s) (drop (lastStart (getD s 2 0) (charges (tabulate k (gateAt c)))) s) (tokensTo c s (cut n o) k) (gateAt c k)
       unfolding openStep
-      token-next =
-          let a = operands-held in
-          let own : gateWire n k ≡ suc (length (tokensTo c s (cut n o) k)) = omega (arith, blocks-length held) in
-          rw (
-            token-held (gateAt c k .a .0) (a .a-low) (omega (arith, a .order, a .b-high, start .is-n)),
-            token-held (gateAt c k .b .0) (omega (arith, a .a-low, a .order)) (omega (arith, a .b-high, start .is-n)),
-            own,
-            inv .is-at,
-          )
+      token-next = rw (held-a, held-b, own-wire, inv .is-at)
 
       -- the calls of gate k are those of the tokens held
       calls-next : evaluateCallsAt (getD s 2 0) (kindOf (gateAt c k .code)) (gateWire n k) (tokenAt d (gateAt c k .a .0)) (tokenAt d (gateAt c k .b .0))
           ≡ evaluateCallsAt (getD s 2 0) (kindOf (gateAt c k .code)) (suc (length (tokensTo c s (cut n o) k))) (wire (block 0) (tokensTo c s (cut n o) k) (gateAt c k .a .0)) (wire (block 0) (tokensTo c s (cut n o) k) (gateAt c k .b .0))
-      calls-next =
-          let a = operands-held in
-          let own : gateWire n k ≡ suc (length (tokensTo c s (cut n o) k)) = omega (arith, blocks-length held) in
-          rw (
-            token-held (gateAt c k .a .0) (a .a-low) (omega (arith, a .order, a .b-high, start .is-n)),
-            token-held (gateAt c k .b .0) (omega (arith, a .a-low, a .order)) (omega (arith, a .b-high, start .is-n)),
-            own,
-          )
+      calls-next = rw (held-a, held-b, own-wire)
 
       counted-next : (made : ℕ)
           → made ≡ evaluateCallsAt (getD s 2 0) (kindOf (gateAt c k .code)) (gateWire n k) (tokenAt d (gateAt c k .a .0)) (tokenAt d (gateAt c k .b .0))

@@ -1,26 +1,18 @@
 -- Conditions 12 to 18 written out over a circuit and the bytes of a material, with 01's own r = 4, 3, 2: they are `materialVerdict`. Assumes nothing.
 use Prim.Native.Nat.{ℕ, _+_, _*_}
-use mathlib.Core.Path.{_≡_, refl, sym}
+use mathlib.Core.Path.{_≡_, refl}
 use mathlib.Core.Bool.{not, _&&_}
 use mathlib.Core.List.{List, [], _∷_}
-use borrow.Author.Tests.{leb-true, not-false}
 use lib.Dec.{ltb, eqb}
 use lib.ListN.{length, getD, take}
 use lib.Seq.{take-length}
 use Rattle.model.specs.Bytes.{be16}
 use Rattle.model.specs.Circuit.{Circuit, markAt, codeAt, kindOf, charges, gateWire}
 use Rattle.model.specs.Scheme.{recordLength}
-use Rattle.model.specs.Garbling.{Known}
 use Rattle.model.specs.Material.{lastStart, materialLength}
 use Rattle.model.specs.Refusals.{Verdict, fine, refused, refuse, _then_, firstOf, isCharged, schemeVerdict, circuitSizes, sameSizes, fileVerdict, rowRecordAt, rowStart, rowVerdict, lastByteVerdict, lastVerdict, materialVerdict}
 use Rattle.model.proofs.Places.{rows-stored}
-use Rattle.model.proofs.Verdicts.{refuse-fine, and-both}
-
-scheme-known : (k : ℕ) → schemeVerdict k ≡ fine → Known k
-unfolding schemeVerdict
-scheme-known k e =
-    let b = and-both _ _ (not-false _ (refuse-fine _ _ _ e)) in
-    record { low = leb-true _ _ (b .0); high = leb-true _ _ (b .1) }
+use Rattle.material.proofs.RowLaws.{scheme-known}
 
 -- nothing past a refusal is asked for
 stopped : (i x : ℕ) (v a b c d a′ b′ c′ d′ : Verdict) → (v then refused i x then a then b then c then d) ≡ (v then refused i x then a′ then b′ then c′ then d′)

@@ -49,9 +49,6 @@ module _ (s : List ℕ) (at : ℕ) where
     stands h e = simp (le-leb _ _ h, e)
 
 -- ---- gate_standing: the wire number and the record's bytes as they were read
-pub scheme-there : (s : List ℕ) (at : ℕ) → at + 4 ≤ length s → 2 < length s
-scheme-there s at h = omega arith
-
 module _ (s : List ℕ) (at own : ℕ) (is-own : own ≡ be16 s (at + 2)) (bytes : ℕ) (is-bytes : bytes ≡ recordLength (schemeOf (getD s 2 0))) (room : at + 4 ≤ length s) where
   pub stands-cut : length s - at < bytes → Standing.Cut (record { 0 = own }) ≡ gateStanding s at
   unfolding gateStanding
@@ -65,7 +62,7 @@ module _ (s : List ℕ) (at own : ℕ) (is-own : own ≡ be16 s (at + 2)) (bytes
       let within : at + recordLength (schemeOf (getD s 2 0)) ≤ length s = omega (arith, is-bytes) in
       simp (le-leb _ _ within, is-own)
 
-pub ruleset gate-cases = (scheme-there, stands-cut, stands-whole)
+pub ruleset gate-cases = (stands-cut, stands-whole)
 
 -- ---- standing_at: the bytes from the place on, and the marks as they were tried
 module _ (s : List ℕ) (at : ℕ) where

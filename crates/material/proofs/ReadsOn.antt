@@ -11,12 +11,11 @@ use mathlib.Core.List.{List}
 use borrow.Author.Tests.{not-false}
 use lib.ListN.{length, getD}
 use Rattle.model.specs.Bytes.{tabulate}
-use Rattle.model.specs.Circuit as Kinds
 use Rattle.model.specs.Circuit.{circuitOf, inputs, outputs, gates, gateAt, gateWire, kindOf, charge, charges, markAt}
 use Rattle.model.specs.Scheme.{recordLength}
 use Rattle.model.specs.Garbling.{schemeOf}
 use Rattle.model.specs.Material.{lastStart}
-use Rattle.model.specs.Refusals.{fine, isCharged, rowStart, rowRecordAt, rowVerdict, lastVerdict, materialVerdict}
+use Rattle.model.specs.Refusals.{fine, rowStart, rowRecordAt, rowVerdict, lastVerdict, materialVerdict}
 use Rattle.model.proofs.Lists.{tabulate-snoc}
 use Rattle.model.proofs.Circuits.{charges-snoc, charge-le}
 use Rattle.model.proofs.Verdicts.{then-fine, refuse-fine, first-each}
@@ -25,6 +24,7 @@ use Rattle.material.specs.Reader.{standingAt, pastAt, recordOf}
 use Rattle.material.proofs.SizeLaws.{inputs-same, gates-many, code-at}
 use Rattle.material.proofs.MaterialLaws.{circuit-file}
 use Rattle.material.proofs.ReaderLaws.{record-stands, record-found, stands-last}
+use Rattle.material.proofs.RecordLaws.{one-charged}
 use Rattle.material.proofs.RowLaws.{row-first, row-next, row-end, last-ends, row-room, FileHolds, file-holds}
 
 pub record ReadsOn (c s : List ℕ) : Type 0 where
@@ -40,11 +40,6 @@ pub record ReadsOn (c s : List ℕ) : Type 0 where
   pub last-place : rowStart (circuitOf c) s (gates c) ≡ lastStart (getD s 2 0) (charges (circuitOf c .gates))
   pub last-long : rowStart (circuitOf c) s (gates c) + 2 + outputs c ≡ length s
 
-charged-one : (x : Kinds.Kind) → charge x ≡ 1 → isCharged x ≡ true
-charged-one (Kinds.charged u v y) e = refl
-charged-one (Kinds.free p q d) e = absurd (omega arith)
-charged-one Kinds.refused e = absurd (omega arith)
-
 module _ (c s : List ℕ) (e : materialVerdict (circuitOf c) s ≡ fine) where
   file : FileHolds c s
   unfolding materialVerdict
@@ -55,7 +50,7 @@ module _ (c s : List ℕ) (e : materialVerdict (circuitOf c) s ≡ fine) where
     unfolding materialVerdict rowVerdict
     is-there =
         let each = first-each _ _ k (then-fine _ _ (then-fine _ _ e .0) .1) (rw (gates-many c) h) in
-        rw (← inputs-same c) (not-false _ (rw (code-at c k h, charged-one (kindOf (gateAt c k .code)) one) at (refuse-fine _ _ _ each)))
+        rw (← inputs-same c) (not-false _ (rw (code-at c k h, one-charged (kindOf (gateAt c k .code)) (λ none. absurd (omega (arith, one))) .0) at (refuse-fine _ _ _ each)))
 
     room : rowStart (circuitOf c) s k + recordLength (schemeOf (getD s 2 0)) ≤ length s
     room = omega (arith, rw one at (row-room c s (file .whole) k h))

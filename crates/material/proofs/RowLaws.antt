@@ -51,22 +51,28 @@ module _ (c s : List ℕ) where
     row-room k h = rw (start-at k (omega arith)) (omega (arith, last-ends, record-fits (getD s 2 0) (gateAt c) k (gates c) h))
 
 -- ---- none of 12 to 16 holds
+
+pub scheme-known : (k : ℕ) → schemeVerdict k ≡ fine → Known k
+unfolding schemeVerdict
+scheme-known k e =
+    let b = and-both _ _ (not-false _ (refuse-fine _ _ _ e)) in
+    record { low = leb-true _ _ (b .0); high = leb-true _ _ (b .1) }
+
 pub record FileHolds (c s : List ℕ) : Type 0 where
   pub header : 9 ≤ length s
   pub known : Known (getD s 2 0)
   pub whole : length s ≡ materialLength (getD s 2 0) (outputs c) (charges (circuitOf c .gates))
 
 pub file-holds : (c s : List ℕ) → fileVerdict (sizesOf c) s ≡ fine → FileHolds c s
-unfolding fileVerdict schemeVerdict sizesOf
+unfolding fileVerdict sizesOf
 file-holds c s e =
     let a = then-fine _ _ e in
     let b = then-fine _ _ (a .0) in
     let d = then-fine _ _ (b .0) in
     let f = then-fine _ _ (d .0) in
-    let g = and-both _ _ (not-false _ (refuse-fine _ _ _ (d .1))) in
     record {
       header = ltb-false _ _ (refuse-fine _ _ _ (f .0));
-      known = record { low = leb-true _ _ (g .0); high = leb-true _ _ (g .1) };
+      known = scheme-known (getD s 2 0) (d .1);
       whole = eqb-true _ _ (not-false _ (refuse-fine _ _ _ (a .1)));
     }
 

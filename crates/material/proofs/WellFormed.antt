@@ -1,29 +1,24 @@
--- What a well-formed material tells whoever works through it: none of 12 to 18 holds. With it go `row-first` and `row-next` of
--- proofs/RowLaws.antt, which say where each record starts. Assumes nothing.
+-- What a well-formed material tells whoever works through it: none of 12 to 18 holds. With it go `row-first`, `row-next` and `row-room` of
+-- proofs/RowLaws.antt, which say where each record starts, and that it lies inside. Assumes nothing.
 use Prim.Native.Nat.{ℕ, _+_, _-_, _≤_, _<_}
 use native.Mathlib.Omega.{arith}
 use mathlib.Core.Path.{_≡_, _∙_}
 use mathlib.Core.List.{List}
 use borrow.Author.Tests.{ltb-false}
 use lib.ListN.{length, getD}
-use Rattle.model.specs.Circuit.{circuitOf, outputs, gates, gateAt, kindOf, charge, charges}
-use Rattle.model.specs.Scheme.{recordLength}
-use Rattle.model.specs.Garbling.{Known, schemeOf}
+use Rattle.model.specs.Circuit.{circuitOf, outputs, charges}
+use Rattle.model.specs.Garbling.{Known}
 use Rattle.model.specs.Material.{lastStart, materialLength}
-use Rattle.model.specs.Refusals.{fine, rowStart, lastByteVerdict, lastVerdict, materialVerdict}
+use Rattle.model.specs.Refusals.{fine, lastByteVerdict, lastVerdict, materialVerdict}
 use Rattle.model.proofs.Outputs.{outputs-many}
 use Rattle.model.proofs.Verdicts.{then-fine, refuse-fine, first-each}
 use Rattle.material.proofs.MaterialLaws.{circuit-file}
-use Rattle.material.proofs.RowLaws.{last-ends, row-room, FileHolds, file-holds}
+use Rattle.material.proofs.RowLaws.{last-ends, FileHolds, file-holds}
 
 pub record WellFormed (c s : List ℕ) : Type 0 where
   pub known : Known (getD s 2 0)
   pub whole : length s ≡ materialLength (getD s 2 0) (outputs c) (charges (circuitOf c .gates))
-  -- the record of a charged gate lies inside
-  pub record-room : (k : ℕ) → k < gates c → charge (kindOf (gateAt c k .code)) ≡ 1
-      → rowStart (circuitOf c) s k + recordLength (schemeOf (getD s 2 0)) ≤ length s
-  -- the last bytes, one for each output, come after the last record's mark, and each is 0 or 1
-  pub last-bytes : lastStart (getD s 2 0) (charges (circuitOf c .gates)) + 2 ≡ length s - outputs c
+  -- the last bytes, one for each output, and each is 0 or 1
   pub last-inside : outputs c ≤ length s
   pub last-bits : (i : ℕ) → i < outputs c → getD s (length s - outputs c + i) 0 ≤ 1
 
@@ -47,8 +42,6 @@ module _ (c s : List ℕ) (e : materialVerdict (circuitOf c) s ≡ fine) where
       record {
         known = file .known;
         whole = file .whole;
-        record-room = λ k h one. omega (arith, rw one at (row-room c s (file .whole) k h));
-        last-bytes = at;
         last-inside = omega (arith, start);
         last-bits = λ i h. rw (← at) (bit i h);
       }

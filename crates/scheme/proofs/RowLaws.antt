@@ -81,51 +81,39 @@ module _ (scheme at : ℕ) (s : List ℕ) (room : RecordRoom scheme at s) where
     }
 
   module _ (n : scheme ≡ 3 → ⊥) where
-    one : scheme < 2 → scheme ≡ 1
-    one l = omega (arith, room .known .low)
+    -- it is scheme 1 or scheme 2
+    either : {A : Type 0} → (scheme ≡ 1 → A) → (scheme ≡ 2 → A) → A
+    either {A = A} f g = go (decLt scheme 2)
+      where
+        go : Dec (scheme < 2) → A
+        go (Dec.yes l) = f (omega (arith, room .known .low))
+        go (Dec.no l) = g (omega (arith, room .known .high))
 
-    two : (scheme < 2 → ⊥) → scheme ≡ 2
-    two l = omega (arith, room .known .high)
+    four-rows : scheme ≡ 1 → at + 4 + 64 ≤ length s
+    unfolding gax recordLength
+    four-rows e = let r = rw (is-gax scheme e) at (room .room) in omega arith
 
-    not-one : (scheme < 2 → ⊥) → scheme ≡ 1 → ⊥
-    not-one l e = l (omega arith)
+    three-rows : scheme ≡ 2 → at + 4 + 48 ≤ length s
+    unfolding gaxr recordLength
+    three-rows e = let r = rw (is-gaxr scheme e) at (room .room) in omega arith
 
     pub rows-room : (i : ℕ) → i ≤ 3 → HeldRoom scheme (at + 4) i s
-    unfolding gax gaxr recordLength
-    rows-room i h = record { rows = record { number = h; room = short (decLt scheme 2) }; all = long }
-      where
-        long : scheme ≡ 1 → at + 4 + 64 ≤ length s
-        long e = let r = rw (is-gax scheme e) at (room .room) in omega arith
-
-        short : Dec (scheme < 2) → at + 4 + 48 ≤ length s
-        short (Dec.yes l) = let r = long (one l) in omega arith
-        short (Dec.no l) = let r = rw (is-gaxr scheme (two l)) at (room .room) in omega arith
-
-    row-opens : (g i : ℕ) (a b row x : Block) → i ≡ 2 * colour a + colour b → HeldRow scheme (at + 4) i s row
-        → x ≡ dualKey a b (4 * g + 2 * colour a + colour b) row
-        → x ≡ schemeOf scheme .opened g (cut (schemeOf scheme .stored) (drop 4 (drop at s))) a b
-    unfolding gax gaxr openRow
-    row-opens g i a b row x is-i held is-x = go (decLt scheme 2)
-      where
-        go : Dec (scheme < 2) → x ≡ schemeOf scheme .opened g (cut (schemeOf scheme .stored) (drop 4 (drop at s))) a b
-        go (Dec.yes l) = rw (is-gax scheme (one l), drop-drop 4 at s, ← is-i, ← held .by-gax (one l)) is-x
-        go (Dec.no l) = rw (is-gaxr scheme (two l), drop-drop 4 at s, ← is-i, ← held .by-gaxr (not-one l)) is-x
-
-    asks-one : (g : ℕ) (a b : Block) → evaluateAsks scheme g a b ≡ sealingHeld g a b
-    unfolding evaluateAsks
-    asks-one g a b = go (decLt scheme 2)
-      where
-        go : Dec (scheme < 2) → evaluateAsks scheme g a b ≡ sealingHeld g a b
-        go (Dec.yes l) = rw (one l)
-        go (Dec.no l) = rw (two l)
+    rows-room i h = record { rows = record { number = h; room = either (λ e. omega (arith, four-rows e)) three-rows }; all = four-rows }
 
     pub rows-open : (g i : ℕ) (a b row : Block) (r : OpenedGate) → i ≡ 2 * colour a + colour b → HeldRow scheme (at + 4) i s row
         → OpenedIs (dualKey a b (4 * g + 2 * colour a + colour b) row) (sealingHeld g a b) r
         → OpenedIs (schemeOf scheme .opened g (cut (schemeOf scheme .stored) (drop 4 (drop at s))) a b) (evaluateAsks scheme g a b) r
-    rows-open g i a b row r is-i held is-r = record {
-      is-token = row-opens g i a b row (r .token .bytes) is-i held (is-r .is-token);
-      is-calls = rw (asks-one g a b) (is-r .is-calls);
-    }
+    unfolding gax gaxr openRow evaluateAsks
+    rows-open g i a b row r is-i held is-r =
+        either
+        (λ e. record {
+          is-token = rw (is-gax scheme e, drop-drop 4 at s, ← is-i, ← held .by-gax e) (is-r .is-token);
+          is-calls = rw e (is-r .is-calls);
+        })
+        (λ e. record {
+          is-token = rw (is-gaxr scheme e, drop-drop 4 at s, ← is-i, ← held .by-gaxr (λ f. omega arith)) (is-r .is-token);
+          is-calls = rw e (is-r .is-calls);
+        })
 
 pub ruleset charged-rooms = (half-room-g, half-room-e, rows-room)
 

@@ -11,11 +11,7 @@ garble-charged-requires c κs =
 
 -- the place past the record
 next-fits : tie.Need-add-at
-next-fits c = omega (
-  arith,
-  step-small _ _ _ _ _ _ _ (c .before .before .before .before .before .before .before .before .before .before .before .before .before .before .before .before .before .before .pre .1 .1 .0) _ _ _ _ (c .before .before .before .before .before .before .before .before .before .before .before .before .before .before .before .before .before .before .pre .1 .1 .1),
-  c .record-length .ensures .1,
-)
+next-fits c = omega (arith, step-small _ _ _ _ _ _ _ (c .before .before .before .before .before .before .before .before .before .before .before .before .before .before .before .before .before .before .pre .1 .1 .0) _ _ _ _ (c .before .before .before .before .before .before .before .before .before .before .before .before .before .before .before .before .before .before .pre .1 .1 .1), c .record-length .ensures .1)
 
 returns : tie.Need-returns
 returns c =
