@@ -13,11 +13,11 @@ use Rattle.model.specs.Circuit.{charges, circuitOf, outputs, gates}
 use Rattle.model.specs.Tokens.{garblingOf}
 use Rattle.model.specs.Garbling.{zeroTokens, inputOnes}
 use Rattle.model.specs.Material.{joinBlocks, material, materialLength}
-use Rattle.model.specs.Refusals.{fine, refused, verdictOf, circuitVerdict}
+use Rattle.model.specs.Refusals.{fine, refused, verdictOf}
 use Rattle.model.specs.Operations.{Made, made, no, yes, sizesOf, checkedOf, checkAnswer, garbledOf, garbleVerdict, garbleMade, GarbleIs}
-use Rattle.model.proofs.Verdicts.{no-turned}
-use Rattle.material.specs.Answers.{Accepted}
-use Rattle.material.proofs.SizeLaws.{check-accepted, is-n}
+use Rattle.circuit.specs.Accepted.{Accepted}
+use Rattle.circuit.proofs.AcceptedLaws as A
+use Rattle.circuit.proofs.AcceptedLaws.{check-accepted, is-n}
 use Rattle.garble.specs.Whole.{WholeStart}
 use Rattle.chain.specs.declared.Chained.{Chained}
 use Rattle.chain.specs.Parts.{EncodeStart, EncodeOn}
@@ -80,9 +80,7 @@ module _ (c seed : List ℕ) (scheme : ℕ) (f z o : List ℕ) (g : Garbled) (f�
       -- it cannot refuse what garble accepted
       pub check-refused : (e : Refusal) → q ≡ Checked.Refused e → (v t w b : List ℕ)
           → EndedAtGarble c seed scheme v f z o t w b f′ z′ o′ t w b (verdictOf e)
-      check-refused e j v t w b =
-          let d = no-turned (circuitVerdict c) (verdictOf e) (sizesOf c) (rw j at is-q) in
-          absurd (other _ _ (sym (start .accepted) ∙ d .is-v))
+      check-refused e j v t w b = absurd (other _ _ (sym (A.check-refused c q is-q e j ∙ start .accepted)))
 
       module _ (s : Sizes) (j : q ≡ Checked.Accepted s) where
         known : Accepted c s

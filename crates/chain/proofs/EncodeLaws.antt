@@ -12,7 +12,7 @@ use Rattle.model.specs.Circuit.{circuitOf}
 use Rattle.model.specs.Evaluation.{encodeBytes}
 use Rattle.model.specs.Refusals.{fine, verdictOf}
 use Rattle.model.specs.Operations.{ranOf, EncodeIs}
-use Rattle.material.proofs.SizeLaws.{is-n}
+use Rattle.circuit.proofs.AcceptedLaws.{is-n}
 use Rattle.garble.proofs.EncodeIsLaws.{encode-fine}
 use Rattle.chain.specs.declared.Chained.{Chained}
 use Rattle.chain.specs.Parts.{EncodeStart, EvaluateStart, EvaluateOn, EncodeOn}

@@ -13,8 +13,9 @@ use Rattle.model.specs.Evaluation.{evaluateBytes}
 use Rattle.model.specs.Refusals.{verdictOf}
 use Rattle.model.specs.Operations.{no, evaluatedOf, evaluateVerdict, evaluateCallsOf, EvaluateIs}
 use Rattle.model.proofs.Verdicts.{Given, yes-given, then-fine}
+use Rattle.circuit.proofs.AcceptedLaws.{is-n, is-q}
 use Rattle.evaluate.specs.Outputs.{OutputsStart}
-use Rattle.evaluate.proofs.ReadyLaws.{evaluate-verdict, rest-holds}
+use Rattle.evaluate.proofs.RestLaws.{evaluate-verdict, rest-holds}
 use Rattle.chain.specs.declared.Chained.{Chained}
 use Rattle.chain.specs.Parts.{EvaluateStart, DecodeOn, EvaluateOn}
 use Rattle.chain.proofs.PartLaws.{over-long}

@@ -8,7 +8,7 @@ use Rattle.model.specs.Circuit.{circuitOf}
 use Rattle.model.specs.Evaluation.{outputTokens}
 use Rattle.model.specs.Refusals.{fine, verdictOf}
 use Rattle.model.specs.Operations.{yes, no, evaluateCallsOf, EncodeIs, EvaluateIs, DecodeIs}
-use Rattle.material.specs.Answers.{Accepted}
+use Rattle.circuit.specs.Accepted.{Accepted}
 use Rattle.chain.specs.declared.Chained.{Chained}
 
 -- ---- decode: "that material and evaluate's tokens of the m outputs"

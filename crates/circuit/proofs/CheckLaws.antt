@@ -1,19 +1,13 @@
--- Check: a law for each of its returns, and how large an accepted circuit's sizes are. Assumes nothing.
+-- Check: a law for each of its returns. Assumes nothing.
 use Prim.Native.Nat.{ℕ, _+_, _*_, _≤_}
-use native.Mathlib.Omega.{arith}
 use mathlib.Core.Path.{_≡_, ap}
 use mathlib.Core.List.{List}
 use lib.ListN.{length}
 use Rattle.model.specs.declared.Refusal.{Refusal}
-use Rattle.model.specs.declared.Sizes.{Sizes}
-use Rattle.model.specs.declared.Checked.{Checked}
-use Rattle.model.specs.Bytes.{tabulate}
-use Rattle.model.specs.Circuit.{circuitOf, inputs, outputs, gates, gateAt}
+use Rattle.model.specs.Circuit.{circuitOf, inputs, outputs, gates}
 use Rattle.model.specs.Refusals.{_then_, verdictOf, headVerdict, gatesVerdict, circuitVerdict}
-use Rattle.model.specs.Operations.{no, yes, sizesOf, checkedOf, checkAnswer}
-use Rattle.model.proofs.Lists.{tabulate-length}
-use Rattle.model.proofs.Accepted.{HeaderHolds, header-holds, accepted-header}
-use Rattle.model.proofs.Circuits.{charges-le}
+use Rattle.model.specs.Operations.{no, yes, sizesOf, checkAnswer}
+use Rattle.model.proofs.Accepted.{HeaderHolds, header-holds}
 use Rattle.model.proofs.Verdicts.{yes-given, no-then, no-other, Given}
 use Rattle.circuit.specs.Answers.{headerOf, headerAnswer, searchOf, searchAnswer}
 use Rattle.circuit.specs.declared.header.Header.{Header}
@@ -60,21 +54,3 @@ module _ (s : List ℕ) (r : HeaderRead) (is-r : headerOf r ≡ headerAnswer s) 
           rw (told .is-fine, y .is-fine, told .is-result, y .is-result)
 
 pub ruleset check-cases = (check-header, search-whole, search-sum, check-gate, check-accepted)
-
--- ---- an accepted circuit's sizes, as check gives them
-module _ (s : List ℕ) (r : Checked) (is-r : checkedOf r ≡ checkAnswer s) (z : Sizes) (e : r ≡ Checked.Accepted z) where
-  accepted : Given (circuitVerdict s) z (sizesOf s)
-  accepted = yes-given (circuitVerdict s) z (sizesOf s) (rw e at is-r)
-
-  limits : HeaderHolds s
-  limits = accepted-header s (accepted .is-fine)
-
-  pub few-outputs : z .m ≤ 65535
-  unfolding sizesOf
-  few-outputs = rw (accepted .is-result) (omega (arith, limits .sizes .m-high, limits .sizes .sum))
-
-  pub few-charges : z .p ≤ 65535
-  unfolding sizesOf circuitOf
-  few-charges =
-      rw (accepted .is-result)
-      (omega (arith, charges-le (tabulate (gates s) (gateAt s)), tabulate-length (gates s) (gateAt s), limits .sizes .sum))

@@ -4,6 +4,8 @@ pub mod HeaderLaws
 pub mod GateLaws
 pub mod SearchLaws
 pub mod CheckLaws
+pub mod AcceptedLaws
+pub mod ArgumentLaws
 pub mod ValueLaws
 pub mod OutputLaws
 pub mod PlainLaws

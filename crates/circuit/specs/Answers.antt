@@ -9,14 +9,13 @@ use Rattle.model.specs.declared.Refusal.{Refusal}
 use Rattle.model.specs.declared.Sizes.{Sizes}
 use Rattle.model.specs.Bytes.{tabulate}
 use Rattle.model.specs.Circuit.{Kind, charged, free, refused, kindOf, charge, charges, inputs, outputs, gates, gateAt}
-use Rattle.model.specs.Refusals.{Verdict, fine, verdictOf, numberOf, placeOf, headVerdict, gateVerdict, recordVerdict, gatesVerdict, circuitVerdict}
-use Rattle.model.specs.Operations.{Answer, no, yes, answer, sizesOf, plainVerdict}
+use Rattle.model.specs.Refusals.{Verdict, fine, _then_, verdictOf, numberOf, placeOf, headVerdict, gateVerdict, recordVerdict, gatesVerdict, circuitVerdict, valuesVerdict, roomVerdict}
+use Rattle.model.specs.Operations.{Answer, no, yes, answer}
 use Rattle.circuit.specs.declared.header.Header.{Header}
 use Rattle.circuit.specs.declared.header.HeaderRead.{HeaderRead}
 use Rattle.circuit.specs.declared.gates.GateRead.{GateRead}
 use Rattle.circuit.specs.declared.gates.Searched.{Searched}
 use Rattle.circuit.specs.declared.values.Bits.{Bits}
-use Rattle.circuit.specs.declared.values.Ready.{Ready}
 
 -- ---- codes
 
@@ -91,12 +90,9 @@ abbrev pub bitsOf : Bits → Verdict
 bitsOf Bits.Fine = fine
 bitsOf (Bits.Fault i) = Verdict.refused 10 i
 
-abbrev pub readyOf : Ready → Answer Sizes
-readyOf (Ready.Go z) = yes z
-readyOf (Ready.Refused f) = no (verdictOf f)
-
-abbrev pub plainReady : List ℕ → List ℕ → ℕ → Answer Sizes
-plainReady c v room = answer (plainVerdict c v room) (sizesOf c)
+-- 9, 10, 19 by a circuit's sizes: with the circuit's own before them, the model's `plainVerdict`, as `plain-verdict` of proofs/PlainLaws.antt shows
+unfoldable pub plainArguments : Sizes → List ℕ → ℕ → Verdict
+plainArguments z v room = valuesVerdict (z .n) v then roomVerdict (z .n + z .q) room
 
 -- what the gates' evaluation starts from: an accepted circuit c, and the values of its inputs at the front of the buffer o
 pub record PlainStart (c o : List ℕ) (n q : ℕ) : Type 0 where

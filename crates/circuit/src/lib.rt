@@ -5,14 +5,14 @@ use crate::gates::Searched;
 use crate::gates::search_gates;
 use crate::header::HeaderRead;
 use crate::header::read_header;
-use crate::values::Ready;
+use crate::values::plain_arguments;
 use crate::values::plain_gates;
-use crate::values::plain_ready;
 use buffer::copy_front;
 use model::Checked;
 use model::Ran;
 use model::Sizes;
 
+pub mod arguments;
 pub mod code;
 pub mod gates;
 pub mod header;
@@ -42,14 +42,15 @@ pub fn check(circuit: &[u8]) -> Checked
 pub fn plain(circuit: &[u8], values: &[u8], wires: &mut [u8]) -> Ran
     ensures { λ r. ⌜ PlainIs (now (circuit .entry)) (now (values .entry)) (now (wires .entry)) (ranOf r) (now (wires .exit)) ⌝ }
 {
-    match plain_ready(circuit, values, wires.len()) {
-        Ready::Refused(f) => Ran::Refused(f),
-        Ready::Go(z) => {
-            let n = z.n;
-            let q = z.q;
-            copy_front(values, wires);
-            plain_gates(circuit, n, q, wires);
-            Ran::Done
-        }
+    match check(circuit) {
+        Checked::Refused(f) => Ran::Refused(f),
+        Checked::Accepted(z) => match plain_arguments(z, values, wires.len()) {
+            Ran::Refused(f) => Ran::Refused(f),
+            Ran::Done => {
+                copy_front(values, wires);
+                plain_gates(circuit, z.n, z.q, wires);
+                Ran::Done
+            }
+        },
     }
 }

@@ -1,15 +1,17 @@
-// Values: the refusals of a value list, and what the plain circuit carries on the wires of its gates (01, Circuit).
+// Values: the search of a value list, the refusals of plain, and what the plain circuit carries on the wires of its gates (01, Circuit).
 ghost use mathlib.Core.Path.{_≡_};
 ghost use lib.ListN.{take};
 ghost use Rattle.model.specs.Bytes.{over};
 ghost use Rattle.model.specs.Circuit.{circuitOf, plainValues};
 ghost use Rattle.model.specs.Refusals.{bitsVerdict};
-ghost use Rattle.circuit.specs.Answers.{bitsOf, readyOf, plainReady, PlainStart};
-use crate::check;
+ghost use Rattle.model.specs.Operations.{ranOf};
+ghost use Rattle.circuit.specs.Accepted.{Bounded};
+ghost use Rattle.circuit.specs.Answers.{bitsOf, plainArguments, PlainStart};
+use crate::arguments::check_room;
+use crate::arguments::check_values;
 use crate::code::code_value;
 use crate::gates::gate_at;
-use model::Checked;
-use model::Refusal;
+use model::Ran;
 use model::Sizes;
 use model::Truth;
 
@@ -17,12 +19,6 @@ use model::Truth;
 pub enum Bits {
     Fine,
     Fault(usize),
-}
-
-// Whether an operation's arguments are worked through.
-pub enum Ready {
-    Go(Sizes),
-    Refused(Refusal),
 }
 
 // Refusal 10: the search leaves at the first value that is neither 0 nor 1.
@@ -42,29 +38,14 @@ pub fn search_values(values: &[u8]) -> Bits
     found
 }
 
-// The refusals of plain, in order: 1 to 7, 9, 10, 19.
-pub fn plain_ready(circuit: &[u8], values: &[u8], room: usize) -> Ready
-    ensures { λ r. ⌜ readyOf r ≡ plainReady (now (circuit .entry)) (now (values .entry)) room ⌝ }
+// The refusals of plain once the circuit is accepted, in order: 9, 10, 19.
+pub fn plain_arguments(z: Sizes, values: &[u8], room: usize) -> Ran
+    requires { ⌜ Bounded z ⌝ }
+    ensures { λ r. ⌜ ranOf r ≡ plainArguments z (now (values .entry)) room ⌝ }
 {
-    match check(circuit) {
-        Checked::Refused(f) => Ready::Refused(f),
-        Checked::Accepted(z) => {
-            let n = z.n;
-            let q = z.q;
-            if values.len() != n {
-                return Ready::Refused(Refusal::ValuesLength(values.len()));
-            }
-            match search_values(values) {
-                Bits::Fault(i) => Ready::Refused(Refusal::Value(i)),
-                Bits::Fine => {
-                    if room < n + q {
-                        Ready::Refused(Refusal::Room(n + q))
-                    } else {
-                        Ready::Go(z)
-                    }
-                }
-            }
-        }
+    match check_values(z.n, values) {
+        Ran::Refused(f) => Ran::Refused(f),
+        Ran::Done => check_room(z.n + z.q, room),
     }
 }
 

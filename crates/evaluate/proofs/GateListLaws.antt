@@ -29,13 +29,13 @@ use Rattle.model.proofs.Circuits.{charge-le, charges-snoc}
 use Rattle.model.proofs.Places.{record-high, record-low}
 use Rattle.model.proofs.Verdicts.{then-fine, refuse-fine, and-both, Given, yes-given, Turned, no-turned, first-next, first-found}
 use Rattle.circuit.specs.declared.gates.GateRead.{GateRead}
-use Rattle.circuit.specs.declared.values.Ready.{Ready}
+use Rattle.circuit.specs.Accepted.{Accepted}
 use Rattle.circuit.specs.Answers as Read
 use Rattle.circuit.specs.Answers.{gateOf}
+use Rattle.circuit.proofs.AcceptedLaws.{limits, is-n, is-m, is-q}
 use Rattle.material.specs.declared.records.Cursor.{Cursor}
 use Rattle.material.specs.declared.records.Step.{Step}
-use Rattle.material.specs.Answers.{Accepted, Filed, stepOf, gateAnswer, recordsVerdict}
-use Rattle.material.proofs.SizeLaws.{limits, is-n, is-m, is-q}
+use Rattle.material.specs.Answers.{Filed, stepOf, gateAnswer, recordsVerdict}
 use Rattle.material.proofs.RowLaws.{row-first, row-end}
 use Rattle.material.proofs.RecordLaws.{Reading, at-turn, passAnswer, gate-passed, turn-next, turn-fault, one-charged, answer-free, answer-wrong, answer-right}
 use Rattle.material.proofs.MaterialLaws.{by-record, by-last, material-file, filed}
@@ -44,9 +44,9 @@ use Rattle.evaluate.specs.Answers.{restVerdict}
 use Rattle.scheme.specs.Rows.{RecordRoom}
 use Rattle.evaluate.specs.Walk.{TokenIs, FreeTokenIs, WiresStart, Walking}
 use Rattle.evaluate.specs.GateList.{Ended, GoesTo, Begun, Onward, GateIs, RowsRight, Guessed, Tried, Checked, Written, Stands, TriedLeads, TryLeads, CheckedLeads, CheckLeads, WriteLeads, Few, RowPassed, Tries, Checks, Writes}
-use Rattle.evaluate.proofs.ReadyLaws.{evaluate-verdict}
+use Rattle.evaluate.proofs.RestLaws.{evaluate-verdict}
 use Rattle.evaluate.proofs.WalkLaws.{few-made, charged-room, charge-cases, walk-start, walk-turn, walk-end, wires-walk, wires-done}
-use Rattle.evaluate.proofs.EvaluateLaws.{evaluate-start, evaluate-done}
+use Rattle.evaluate.proofs.EvaluateLaws.{evaluate-fine, evaluate-made}
 
 -- ---- stride_of, of the bytes as they were counted
 
@@ -160,7 +160,7 @@ module _ (c ts s o : List ℕ) (z : Sizes) where
 
   pub wires : Accepted c z → evaluateVerdict c ts s (length o) ≡ fine → WiresStart c ts s (inputs c) (gates c) o
   wires known v =
-      rw (is-n c z known, is-q c z known) at (evaluate-start c ts s o (Ready.Go z) (rw (v, ← known .sizes)) z refl)
+      rw (is-n c z known, is-q c z known) at (evaluate-fine c ts s o v z known)
 
 -- ---- the row record of gate k at its turn, and the answer to it
 module _ (c : List ℕ) (z : Sizes) (s : List ℕ) (known : Filed c z s) (k : ℕ) (h : k < gates c) (g : Gate) (is-g : g ≡ gateAt c k) (here : Cursor)
@@ -631,7 +631,7 @@ module _ (s : List ℕ) (w : Walk) (g : Gate) (d d′ : List ℕ) (there : Curso
         (omega (arith, is-q c (w .z) known)) in
         let are = wires-done c ts s _ _ o start (over ts o) refl (w .calls + made) d′ all in
         ends c ts s o left r d′ (e .over)
-        (rw (e .answered) (evaluate-done c ts s o (Ready.Go (w .z)) (rw (t .fit, ← t .sizes)) (w .z) refl _ d′ are));
+        (rw (e .answered) (evaluate-made c ts s o (t .fit) _ d′ are));
   }
 
   write-on : Onward (w .k) (w .z) there (w .stride) (w .calls + made) r → WriteLeads s w g d r d′

@@ -23,12 +23,13 @@ use Rattle.model.proofs.Lists.{tabulate-length}
 use Rattle.model.proofs.Circuits.{charges-le}
 use Rattle.model.proofs.Accepted.{header-holds}
 use Rattle.model.proofs.Records.{noGate, GateFits, inputs-made, outputs-made, gates-made, head-made, gate-made, mark-made}
-use Rattle.material.specs.Answers.{Accepted}
-use Rattle.material.proofs.SizeLaws.{limits, is-n, is-m, is-q, is-p, gates-many}
+use Rattle.circuit.specs.Accepted.{Accepted}
+use Rattle.circuit.proofs.AcceptedLaws.{limits, is-n, is-m, is-q, is-p, few-wires}
+use Rattle.material.proofs.SizeLaws.{gates-many}
 use Rattle.material.proofs.RowLaws.{row-first, row-room, filed-holds}
 use Rattle.evaluate.specs.declared.list.Walk.{Walk}
 use Rattle.evaluate.specs.GateList.{Lent, Ended, GoesTo, Begun, GateIs, Stands, Few, Tries, Checks, Writes, TryLeads, CheckLeads, WriteLeads}
-use Rattle.evaluate.proofs.ReadyLaws.{evaluate-verdict}
+use Rattle.evaluate.proofs.RestLaws.{evaluate-verdict}
 use Rattle.evaluate.proofs.WalkLaws.{walk-few, walk-step, step-token, wires-walk}
 use Rattle.evaluate.proofs.GateListLaws.{neither, goes-0, refuses, accepted-by, wires}
 
@@ -66,7 +67,7 @@ module _ (c ts s o : List ℕ) (left : ℕ) (w : Walk) (d : List ℕ) (st : Stan
       let held = limits c (w .z) known .sizes in
       record {
         more = omega (arith, st .more go, is-q c (w .z) known);
-        wires = omega (arith, held .sum, is-n c (w .z) known, is-q c (w .z) known);
+        wires = few-wires c (w .z) known;
         outputs-few = omega (arith, held .m-high, is-m c (w .z) known, is-q c (w .z) known);
         charged-few = omega (arith, is-p c (w .z) known, charges-le (circuitOf c .gates), gates-many c, is-q c (w .z) known);
       }

@@ -1,7 +1,7 @@
 -- Laws of the functions.
 pub mod WalkLaws
 pub mod LastLaws
-pub mod ReadyLaws
+pub mod RestLaws
 pub mod EvaluateLaws
 pub mod DecodeLaws
 pub mod OutputLaws

@@ -4,8 +4,6 @@ use native.Mathlib.Omega.{arith}
 use mathlib.Core.Path.{_≡_, ap, _∙_}
 use mathlib.Core.List.{List, _∷_, _++_, map}
 use lib.ListN.{length, length-append}
-use mir.Syntax.{w64}
-use mir.Val.{Fits}
 use Rattle.model.specs.declared.Sizes.{Sizes}
 use Rattle.model.specs.Bytes.{tabulate, over, put}
 use Rattle.model.specs.Circuit.{charges, circuitOf, inputs, outputs, gates, gateAt, wire}
@@ -14,33 +12,32 @@ use Rattle.model.specs.Tokens.{garblingOf, colour, inputZeros}
 use Rattle.model.specs.Garbling.{zeroTokens}
 use Rattle.model.specs.Material.{joinBlocks, lastStart, materialLength, header, records, lastRecord, material}
 use Rattle.model.specs.Evaluation.{tokenAt}
-use Rattle.model.specs.Operations.{sizesOf}
 use Rattle.model.proofs.Lists.{tabulate-length}
-use Rattle.model.proofs.Circuits.{charges-le}
 use Rattle.model.proofs.Places.{length-last}
 use Rattle.model.proofs.Buffers.{over-length, over-put}
 use Rattle.model.proofs.Blocks.{join-length, token-at-front}
 use Rattle.model.proofs.Outputs.{outputs-many}
-use Rattle.model.proofs.Accepted.{HeaderHolds, map-within, accepted-header, accepted-circuit}
+use Rattle.model.proofs.Accepted.{map-within, accepted-circuit}
 use Rattle.model.proofs.Lengths.{zero-tokens-blocks, header-length, records-length, last-length}
+use Rattle.circuit.specs.Accepted.{Accepted}
+use Rattle.circuit.proofs.AcceptedLaws as Sized
 use Rattle.garble.specs.Walk.{WalkOf, GatesIs, ColoursStart, BodyStart, BodyIs}
 
 module _ (c seed : List ℕ) (scheme n r : ℕ) (R : Block) (w : List ℕ) (walk : WalkOf c seed scheme n r R w)
     (s : Sizes) (m z : List ℕ) (start : BodyStart c seed scheme s m z) where
-  limits : HeaderHolds c
-  limits = accepted-header c (walk .accepted)
+  known : Accepted c s
+  known = record { accepted = walk .accepted; sizes = start .sizes }
 
   is-m : s .m ≡ outputs c
-  unfolding sizesOf
-  is-m = ap (λ (x : Sizes). x .m) (start .sizes)
+  is-m = Sized.is-m c s known
 
   is-p : s .p ≡ charges (tabulate (gates c) (gateAt c))
-  unfolding sizesOf circuitOf
-  is-p = ap (λ (x : Sizes). x .p) (start .sizes)
+  unfolding circuitOf
+  is-p = Sized.is-p c s known
 
   -- nothing overflows
   pub few-charged : s .p ≤ 65535
-  few-charged = omega (arith, is-p, charges-le (tabulate (gates c) (gateAt c)), tabulate-length (gates c) (gateAt c), limits .sizes .sum)
+  few-charged = Sized.few-charges c s known
 
   -- ---- after the gates
   module _ (m1 z1 : List ℕ) (calls : ℕ) (done : GatesIs c seed scheme m z m1 z1 calls) where

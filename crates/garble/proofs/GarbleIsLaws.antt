@@ -1,92 +1,88 @@
--- Garble: what the answer of `garble_ready` tells, and what garble answers and leaves. Assumes nothing.
-use Prim.Native.Nat.{ℕ, _≤_}
-use native.Mathlib.Omega.{arith}
-use mathlib.Core.Path.{_≡_, refl, ap, ap₂, _∙_}
+-- Garble: its refusals, what they tell where none holds, and what it answers and leaves. Assumes nothing.
+use Prim.Native.Nat.{ℕ}
+use mathlib.Core.Path.{_≡_, refl, sym, ap₂, _∙_}
 use mathlib.Core.List.{List}
-use borrow.Author.Tests.{ltb-false, leb-true, eqb-true, not-false}
 use lib.ListN.{length}
 use Rattle.model.specs.declared.Sizes.{Sizes}
 use Rattle.model.specs.declared.Refusal.{Refusal}
-use Rattle.model.specs.Circuit.{charges, circuitOf, outputs, gates, gateAt}
-use Rattle.model.specs.Bytes.{tabulate}
+use Rattle.model.specs.declared.Checked.{Checked}
+use Rattle.model.specs.declared.Ran.{Ran}
 use Rattle.model.specs.Material.{materialLength}
-use Rattle.model.specs.Refusals.{fine, verdictOf, seedVerdict, schemeVerdict, roomVerdict}
-use Rattle.model.specs.Operations.{no, yes, sizesOf, garbleVerdict, made, garbleMade, GarbleIs}
-use Rattle.model.proofs.Verdicts.{Given, yes-given, Turned, no-turned, then-fine, refuse-fine, and-both}
-use Rattle.model.proofs.Lists.{tabulate-length}
-use Rattle.model.proofs.Accepted.{accepted-header}
-use Rattle.model.proofs.Circuits.{charges-le}
-use Rattle.circuit.specs.Answers.{readyOf}
-use Rattle.circuit.specs.declared.values.Ready.{Ready}
-use Rattle.garble.specs.Answers.{Few, garbleReady}
+use Rattle.model.specs.Refusals.{Verdict, fine, refused, _then_, verdictOf, circuitVerdict, roomVerdict}
+use Rattle.model.specs.Operations.{no, yes, sizesOf, checkedOf, checkAnswer, ranOf, garbleVerdict, made, garbleMade, GarbleIs}
+use Rattle.model.proofs.Verdicts.{then-fine, then-refused, then-assoc, ran-refused, ran-done}
+use Rattle.model.proofs.Conditions.{seed-fine, scheme-fine, room-fine}
+use Rattle.circuit.specs.Accepted.{Accepted}
+use Rattle.circuit.proofs.AcceptedLaws.{check-refused, check-accepted, left-to-try, is-m, is-p}
+use Rattle.garble.specs.Answers.{roomsVerdict, garbleArguments}
 use Rattle.garble.specs.Whole.{WholeStart, WholeIs}
+
+-- 19 for a length that was worked out
+pub room-made : (u : Verdict) (l needed room : ℕ) → l ≡ needed → u ≡ roomVerdict l room → u ≡ roomVerdict needed room
+room-made u l needed room e is-u = rw (← e) is-u
+
+-- the circuit's refusals, and then those by its sizes
+garble-verdict : (c seed : List ℕ) (scheme km kz ko : ℕ) → garbleVerdict c seed scheme km kz ko ≡ (circuitVerdict c then garbleArguments (sizesOf c) seed scheme km kz ko)
+unfolding garbleVerdict garbleArguments roomsVerdict sizesOf
+garble-verdict c seed scheme km kz ko = simp then-assoc
 
 -- what it tells that nothing refuses
 pub garble-fine : (c seed : List ℕ) (scheme : ℕ) (m z o : List ℕ) → garbleVerdict c seed scheme (length m) (length z) (length o) ≡ fine
     → WholeStart c seed scheme (sizesOf c) m z o
-unfolding garbleVerdict seedVerdict schemeVerdict roomVerdict
+unfolding garbleVerdict
 garble-fine c seed scheme m z o e =
     let a = then-fine _ _ e in
     let b = then-fine _ _ (a .0) in
     let d = then-fine _ _ (b .0) in
     let f = then-fine _ _ (d .0) in
     let g = then-fine _ _ (f .0) in
-    let h = and-both _ _ (not-false _ (refuse-fine _ _ _ (f .1))) in
     record {
       accepted = g .0;
       sizes = refl;
-      seed-length = eqb-true _ _ (not-false _ (refuse-fine _ _ _ (g .1)));
-      known = record { low = leb-true _ _ (h .0); high = leb-true _ _ (h .1) };
-      file-room = ltb-false _ _ (refuse-fine _ _ _ (d .1));
-      wires-room = ltb-false _ _ (refuse-fine _ _ _ (b .1));
-      inputs-room = ltb-false _ _ (refuse-fine _ _ _ (a .1));
+      seed-length = seed-fine seed (g .1);
+      known = scheme-fine scheme (f .1);
+      file-room = room-fine _ _ (d .1);
+      wires-room = room-fine _ _ (b .1);
+      inputs-room = room-fine _ _ (a .1);
     }
 
-module _ (c seed : List ℕ) (scheme : ℕ) (m z o : List ℕ) (r : Ready) (is-r : readyOf r ≡ garbleReady c seed scheme (length m) (length z) (length o)) where
-  pub garble-refused : (f : Refusal) → r ≡ Ready.Refused f → GarbleIs c seed scheme m z o (no (verdictOf f)) m z o
-  garble-refused f e = go (no-turned (garbleVerdict c seed scheme (length m) (length z) (length o)) (verdictOf f) (sizesOf c) (rw e at is-r))
-    where
-      go : Turned (garbleVerdict c seed scheme (length m) (length z) (length o)) (verdictOf f) → GarbleIs c seed scheme m z o (no (verdictOf f)) m z o
-      go t = record { answered = rw (t .is-v, t .is-w); material-left = rw (t .is-v); zeros-left = rw (t .is-v); ones-left = rw (t .is-v) }
+module _ (c seed : List ℕ) (scheme : ℕ) (m z o : List ℕ) where
+  refused-is : (i x : ℕ) → refused i x ≡ garbleVerdict c seed scheme (length m) (length z) (length o) → GarbleIs c seed scheme m z o (no (refused i x)) m z o
+  refused-is i x e = record { answered = rw (← e); material-left = rw (← e); zeros-left = rw (← e); ones-left = rw (← e) }
 
-  module _ (s : Sizes) (e : r ≡ Ready.Go s) where
-    given : Given (garbleVerdict c seed scheme (length m) (length z) (length o)) s (sizesOf c)
-    given = yes-given (garbleVerdict c seed scheme (length m) (length z) (length o)) s (sizesOf c) (rw e at is-r)
+  -- check's answer r
+  module _ (r : Checked) (is-r : checkedOf r ≡ checkAnswer c) where
+    pub garble-circuit : (f : Refusal) → r ≡ Checked.Refused f → GarbleIs c seed scheme m z o (no (verdictOf f)) m z o
+    garble-circuit f e = refused-is _ _ (rw garble-verdict (then-refused _ _ _ _ (check-refused c r is-r f e)))
 
-    is-m : s .m ≡ outputs c
-    unfolding sizesOf
-    is-m = ap (λ (x : Sizes). x .m) (given .is-result)
+    -- and that of what it left to try
+    module _ (s : Sizes) (e : r ≡ Checked.Accepted s) (t : Ran) (is-t : ranOf t ≡ garbleArguments s seed scheme (length m) (length z) (length o)) where
+      known : Accepted c s
+      known = check-accepted c r is-r s e
 
-    is-p : s .p ≡ charges (circuitOf c .gates)
-    unfolding sizesOf
-    is-p = ap (λ (x : Sizes). x .p) (given .is-result)
+      tried : ranOf t ≡ garbleVerdict c seed scheme (length m) (length z) (length o)
+      tried =
+          is-t ∙ left-to-try c s known (λ x. garbleArguments x seed scheme (length m) (length z) (length o))
+          ∙ sym (garble-verdict c seed scheme (length m) (length z) (length o))
 
-    pub garble-go : WholeStart c seed scheme s m z o
-    garble-go = rw (given .is-result) (garble-fine c seed scheme m z o (given .is-fine))
+      pub garble-turned : (f : Refusal) → t ≡ Ran.Refused f → GarbleIs c seed scheme m z o (no (verdictOf f)) m z o
+      garble-turned f g = refused-is _ _ (ran-refused t _ tried f g)
 
-    pub few-outputs : s .m ≤ 65535
-    few-outputs = let h = accepted-header c (garble-go .accepted) in omega (arith, is-m, h .sizes .m-high, h .sizes .sum)
+      module _ (g : t ≡ Ran.Done) where
+        is-fine : garbleVerdict c seed scheme (length m) (length z) (length o) ≡ fine
+        is-fine = sym (ran-done t _ tried g)
 
-    pub few-charges : s .p ≤ 65535
-    unfolding circuitOf
-    few-charges =
-        let h = accepted-header c (garble-go .accepted) in
-        omega (arith, is-p, charges-le (tabulate (gates c) (gateAt c)), tabulate-length (gates c) (gateAt c), h .sizes .sum)
+        pub garble-go : WholeStart c seed scheme s m z o
+        garble-go = rw (known .sizes) (garble-fine c seed scheme m z o is-fine)
 
-    pub few : Few s
-    unfolding sizesOf
-    few =
-        let h = accepted-header c (garble-go .accepted) in
-        record { wires = rw (given .is-result) (h .sizes .sum); outputs = few-outputs; charged = few-charges }
+        pub garble-done : (l : ℕ) → l ≡ materialLength scheme (s .m) (s .p) → (m′ z′ o′ : List ℕ) (calls : ℕ) → WholeIs c seed scheme m z o m′ z′ o′ calls
+            → GarbleIs c seed scheme m z o (yes (made l calls)) m′ z′ o′
+        unfolding garbleMade
+        garble-done l is-l m′ z′ o′ calls done = record {
+          answered = rw is-fine (ap₂ (λ (a b : ℕ). yes (made a b)) (is-l ∙ rw (is-m c s known, is-p c s known)) (done .calls-made));
+          material-left = rw is-fine (done .material-left);
+          zeros-left = rw is-fine (done .zeros-left);
+          ones-left = rw is-fine (done .ones-left);
+        }
 
-    pub garble-done : (l : ℕ) → l ≡ materialLength scheme (s .m) (s .p) → (m′ z′ o′ : List ℕ) (calls : ℕ) → WholeIs c seed scheme m z o m′ z′ o′ calls
-        → GarbleIs c seed scheme m z o (yes (made l calls)) m′ z′ o′
-    unfolding garbleMade
-    garble-done l is-l m′ z′ o′ calls done = record {
-      answered =
-          rw (given .is-fine)
-          (ap₂ (λ (a b : ℕ). yes (made a b)) (is-l ∙ rw (is-m, is-p)) (done .calls-made));
-      material-left = rw (given .is-fine) (done .material-left);
-      zeros-left = rw (given .is-fine) (done .zeros-left);
-      ones-left = rw (given .is-fine) (done .ones-left);
-    }
+pub ruleset garble-cases = (garble-circuit, garble-turned, garble-go, garble-done)

@@ -1,6 +1,5 @@
 -- Laws of the functions.
 pub mod PickLaws
-pub mod ReadyLaws
 pub mod BlockLaws
 pub mod InputLaws
 pub mod EncodeLaws

@@ -1,51 +1,20 @@
--- Pick: a law for each return, and what the answer of its check tells. Assumes nothing.
-use Prim.Native.Nat.{ℕ, _+_, _*_, _-_, _%_, _≤_, _<_}
+-- Pick: what the answer of its check tells, and a law for each return. Assumes nothing.
+use Prim.Native.Nat.{ℕ, _+_, _*_, _-_, _%_, _≤_}
 use native.Mathlib.Omega.{arith}
 use mathlib.Core.Path.{_≡_, sym, _∙_}
 use mathlib.Core.List.{List, []}
 use mathlib.Core.Bool.{not, _&&_}
-use borrow.Author.Tests.{lt-ltb, le-ltb, le-leb, lt-leb, eq-eqb, ne-eqb, leb-true, eqb-true, not-false}
+use borrow.Author.Tests.{eq-eqb, ne-eqb, leb-true, eqb-true, not-false}
 use denote.Ref.{RefT, ptr, now}
 use lib.ListN.{length, take, drop}
 use lib.Dec.{leb, eqb}
 use Rattle.model.specs.declared.Ran.{Ran}
 use Rattle.model.specs.declared.Refusal.{Refusal}
 use Rattle.model.specs.Evaluation.{tokenAt}
-use Rattle.model.specs.Refusals.{fine, refused, refuse, _then_, verdictOf, pickVerdict}
+use Rattle.model.specs.Refusals.{fine, refuse, verdictOf, pickVerdict}
 use Rattle.model.specs.Operations.{ranOf, pickPart}
 use Rattle.model.proofs.Verdicts.{then-fine, refuse-fine, and-both}
 use Rattle.garble.specs.Pick.{placeIn, PartIs}
-
--- ---- pick_check
-module _ (z o : List ℕ) (w b : ℕ) where
-  pub pick-bit : 1 < b → refused 10 0 ≡ pickVerdict z o w b
-  unfolding pickVerdict _then_ refuse
-  pick-bit h = simp (lt-ltb _ _ h)
-
-  module _ (h : b ≤ 1) where
-    pub pick-lengths : (length z ≡ length o → ⊥) → refused 11 (length z) ≡ pickVerdict z o w b
-    unfolding pickVerdict _then_ refuse
-    pick-lengths i = simp (le-ltb _ _ h, ne-eqb _ _ i)
-
-    module _ (i : length z ≡ length o) where
-      pub pick-multiple : (length z % 16 ≡ 0 → ⊥) → refused 11 (length z) ≡ pickVerdict z o w b
-      unfolding pickVerdict _then_ refuse
-      pick-multiple j = simp (le-ltb _ _ h, eq-eqb _ _ i, ne-eqb _ _ j)
-
-      module _ (j : length z % 16 ≡ 0) where
-        pub pick-zero : w < 1 → refused 20 w ≡ pickVerdict z o w b
-        unfolding pickVerdict _then_ refuse
-        pick-zero k = simp (le-ltb _ _ h, eq-eqb _ _ i, eq-eqb _ _ j, lt-leb _ _ k)
-
-        pub pick-past : 1 ≤ w → length z < 16 * w → refused 20 w ≡ pickVerdict z o w b
-        unfolding pickVerdict _then_ refuse
-        pick-past k l = simp (le-ltb _ _ h, eq-eqb _ _ i, eq-eqb _ _ j, le-leb _ _ k, lt-leb _ _ l)
-
-        pub pick-fine : 1 ≤ w → 16 * w ≤ length z → fine ≡ pickVerdict z o w b
-        unfolding pickVerdict _then_ refuse
-        pick-fine k l = simp (le-ltb _ _ h, eq-eqb _ _ i, eq-eqb _ _ j, le-leb _ _ k, le-leb _ _ l)
-
-pub ruleset check-cases = (pick-bit, pick-lengths, pick-multiple, pick-zero, pick-past, pick-fine)
 
 -- ---- pick: r is the answer of its check
 module _ (zs os : RefT (List ℕ)) (w b : ℕ) (r : Ran) (is-r : ranOf r ≡ pickVerdict (now zs) (now os) w b) where

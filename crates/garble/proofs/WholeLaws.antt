@@ -12,27 +12,28 @@ use Rattle.model.specs.Aes.{Block, block, cipher, keyExpansion, aes}
 use Rattle.model.specs.Tokens.{garblingOf, coloured, seedBlock, offset, inputZeros, oneToken}
 use Rattle.model.specs.Garbling.{schemeOf, zeroTokens, inputOnes}
 use Rattle.model.specs.Material.{joinBlocks, materialLength, header, material}
-use Rattle.model.specs.Operations.{sizesOf}
 use Rattle.model.proofs.Lists.{tabulate-length, tabulate-map}
 use Rattle.model.proofs.Buffers.{over-length, over-over}
 use Rattle.model.proofs.Outputs.{outputs-many}
 use Rattle.model.proofs.Blocks.{join-length}
 use Rattle.model.proofs.Lengths.{input-zeros-blocks, zero-tokens-blocks, header-length, material-length}
+use Rattle.circuit.specs.Accepted.{Accepted}
+use Rattle.circuit.proofs.AcceptedLaws as Sized
 use Rattle.garble.specs.Walk.{WalkOf, FrontStart, FrontIs, BodyStart, BodyIs}
 use Rattle.garble.specs.Whole.{WholeStart, WholeIs}
 
 module _ (c seed : List ℕ) (scheme : ℕ) (s : Sizes) (m z o : List ℕ) (start : WholeStart c seed scheme s m z o) where
+  known : Accepted c s
+  known = record { accepted = start .accepted; sizes = start .sizes }
+
   is-n : s .n ≡ inputs c
-  unfolding sizesOf
-  is-n = ap (λ (x : Sizes). x .n) (start .sizes)
+  is-n = Sized.is-n c s known
 
   is-m : s .m ≡ outputs c
-  unfolding sizesOf
-  is-m = ap (λ (x : Sizes). x .m) (start .sizes)
+  is-m = Sized.is-m c s known
 
   is-q : s .q ≡ gates c
-  unfolding sizesOf
-  is-q = ap (λ (x : Sizes). x .q) (start .sizes)
+  is-q = Sized.is-q c s known
 
   pub whole-front : FrontStart (s .n) m z o
   unfolding materialLength

@@ -1,16 +1,10 @@
--- The answers of the inner functions, in the model's terms.
-use Prim.Native.Nat.{ℕ, _+_, _*_, _≤_}
+-- The refusals of garble and encode by the sizes of an accepted circuit. With the circuit's own before them they are the model's `garbleVerdict`
+-- and `encodeVerdict`, as `garble-verdict` of proofs/GarbleIsLaws.antt and `encode-verdict` of proofs/EncodeIsLaws.antt show.
+use Prim.Native.Nat.{ℕ, _+_, _*_}
 use mathlib.Core.List.{List}
 use Rattle.model.specs.declared.Sizes.{Sizes}
 use Rattle.model.specs.Material.{materialLength}
-use Rattle.model.specs.Refusals.{Verdict, _then_, roomVerdict}
-use Rattle.model.specs.Operations.{Answer, answer, sizesOf, garbleVerdict, encodeVerdict}
-
--- few enough that no count of bytes overflows
-pub record Few (z : Sizes) : Type 0 where
-  pub wires : z .n + z .q ≤ 65535
-  pub outputs : z .m ≤ 65535
-  pub charged : z .p ≤ 65535
+use Rattle.model.specs.Refusals.{Verdict, _then_, seedVerdict, valuesVerdict, tokensVerdict, schemeVerdict, roomVerdict}
 
 -- 19 for the three buffers of garble
 unfoldable pub roomsVerdict : Sizes → ℕ → ℕ → ℕ → ℕ → Verdict
@@ -19,11 +13,14 @@ roomsVerdict z scheme km kz ko =
     then roomVerdict (16 * (z .n + z .q)) kz
     then roomVerdict (16 * z .n) ko
 
-abbrev pub roomsReady : Sizes → ℕ → ℕ → ℕ → ℕ → Answer Sizes
-roomsReady z scheme km kz ko = answer (roomsVerdict z scheme km kz ko) z
+-- 8, 14, 19
+unfoldable pub garbleArguments : Sizes → List ℕ → ℕ → ℕ → ℕ → ℕ → Verdict
+garbleArguments z seed scheme km kz ko = seedVerdict seed then schemeVerdict scheme then roomsVerdict z scheme km kz ko
 
-abbrev pub garbleReady : List ℕ → List ℕ → ℕ → ℕ → ℕ → ℕ → Answer Sizes
-garbleReady c seed scheme km kz ko = answer (garbleVerdict c seed scheme km kz ko) (sizesOf c)
-
-abbrev pub encodeReady : List ℕ → List ℕ → List ℕ → List ℕ → ℕ → Answer Sizes
-encodeReady c v zs os room = answer (encodeVerdict c v zs os room) (sizesOf c)
+-- 9, 10, 11 for the two lists in turn, 19
+unfoldable pub encodeArguments : Sizes → List ℕ → List ℕ → List ℕ → ℕ → Verdict
+encodeArguments z v zs os room =
+    valuesVerdict (z .n) v
+    then tokensVerdict (z .n) zs
+    then tokensVerdict (z .n) os
+    then roomVerdict (16 * z .n) room

@@ -3,21 +3,22 @@ ghost use mathlib.Core.Path.{_≡_};
 ghost use Rattle.model.specs.Refusals.{pickVerdict};
 ghost use Rattle.model.specs.Operations.{ranOf, garbledOf, GarbleIs, EncodeIs};
 ghost use Rattle.garble.specs.Pick.{PartIs};
+use crate::arguments::encode_arguments;
+use crate::arguments::garble_arguments;
 use crate::inputs::encode_inputs;
-use crate::ready::encode_ready;
-use crate::ready::garble_ready;
 use crate::whole::garble_whole;
-use circuit::values::Ready;
+use circuit::check;
 use material::material_length;
+use model::Checked;
 use model::Garbled;
 use model::Ran;
 use model::Refusal;
 use model::Truth;
 use model::Wire;
 
+pub mod arguments;
 pub mod inputs;
 pub mod last;
-pub mod ready;
 pub mod records;
 pub mod seed;
 pub mod walk;
@@ -35,20 +36,18 @@ pub fn garble(
 ) -> Garbled
     ensures { λ r. ⌜ GarbleIs (now (circuit .entry)) (now (seed .entry)) scheme (now (material .entry)) (now (zeros .entry)) (now (ones .entry)) (garbledOf r) (now (material .exit)) (now (zeros .exit)) (now (ones .exit)) ⌝ }
 {
-    match garble_ready(
-        circuit,
-        seed,
-        scheme,
-        material.len(),
-        zeros.len(),
-        ones.len(),
-    ) {
-        Ready::Refused(f) => Garbled::Refused(f),
-        Ready::Go(z) => {
-            let calls = garble_whole(circuit, seed, scheme, z, material, zeros, ones);
-            Garbled::Done {
-                length: material_length(scheme, z.m, z.p),
-                calls,
+    match check(circuit) {
+        Checked::Refused(f) => Garbled::Refused(f),
+        Checked::Accepted(z) => {
+            match garble_arguments(z, seed, scheme, material.len(), zeros.len(), ones.len()) {
+                Ran::Refused(f) => Garbled::Refused(f),
+                Ran::Done => {
+                    let calls = garble_whole(circuit, seed, scheme, z, material, zeros, ones);
+                    Garbled::Done {
+                        length: material_length(scheme, z.m, z.p),
+                        calls,
+                    }
+                }
             }
         }
     }
@@ -58,12 +57,15 @@ pub fn garble(
 pub fn encode(circuit: &[u8], values: &[u8], zeros: &[u8], ones: &[u8], tokens: &mut [u8]) -> Ran
     ensures { λ r. ⌜ EncodeIs (now (circuit .entry)) (now (values .entry)) (now (zeros .entry)) (now (ones .entry)) (now (tokens .entry)) (ranOf r) (now (tokens .exit)) ⌝ }
 {
-    match encode_ready(circuit, values, zeros, ones, tokens.len()) {
-        Ready::Refused(f) => Ran::Refused(f),
-        Ready::Go(z) => {
-            encode_inputs(z.n, values, zeros, ones, tokens);
-            Ran::Done
-        }
+    match check(circuit) {
+        Checked::Refused(f) => Ran::Refused(f),
+        Checked::Accepted(z) => match encode_arguments(z, values, zeros, ones, tokens.len()) {
+            Ran::Refused(f) => Ran::Refused(f),
+            Ran::Done => {
+                encode_inputs(z.n, values, zeros, ones, tokens);
+                Ran::Done
+            }
+        },
     }
 }
 

@@ -12,7 +12,7 @@ use Rattle.model.specs.Scheme.{recordLength}
 use Rattle.model.specs.Material.{lastStart, materialLength}
 use Rattle.model.specs.Refusals.{Verdict, fine, refused, refuse, _then_, firstOf, isCharged, schemeVerdict, circuitSizes, sameSizes, fileVerdict, rowRecordAt, rowStart, rowVerdict, lastByteVerdict, lastVerdict, materialVerdict}
 use Rattle.model.proofs.Places.{rows-stored}
-use Rattle.material.proofs.RowLaws.{scheme-known}
+use Rattle.model.proofs.Conditions.{scheme-fine}
 
 -- nothing past a refusal is asked for
 stopped : (i x : ℕ) (v a b c d a′ b′ c′ d′ : Verdict) → (v then refused i x then a then b then c then d) ≡ (v then refused i x then a′ then b′ then c′ then d′)
@@ -45,5 +45,5 @@ module _ (c : Circuit) (s : List ℕ) where
   as-said = go (schemeVerdict (getD s 2 0)) refl
     where
       go : (v : Verdict) → schemeVerdict (getD s 2 0) ≡ v → materialVerdict c s ≡ said
-      go fine e = rw (take-length, ← rows-stored (getD s 2 0) (scheme-known (getD s 2 0) e))
+      go fine e = rw (take-length, ← rows-stored (getD s 2 0) (scheme-fine (getD s 2 0) e))
       go (refused i x) e = rw e (stopped i x _ _ _ _ _ _ _ _ _)

@@ -13,10 +13,12 @@ use Rattle.model.specs.Refusals.{Verdict, fine, refused, _then_, numberOf, plac
 use Rattle.model.specs.Operations.{ranOf, sizesOf}
 use Rattle.model.proofs.Outputs.{outputs-many}
 use Rattle.model.proofs.Verdicts.{Given, yes-given, Turned, no-turned}
+use Rattle.circuit.specs.Accepted.{Accepted}
+use Rattle.circuit.proofs.AcceptedLaws.{is-m}
 use Rattle.material.specs.declared.records.Cursor.{Cursor}
 use Rattle.material.specs.declared.records.Step.{Step}
-use Rattle.material.specs.Answers.{Accepted, Filed, stepOf, recordsVerdict, recordsAnswer}
-use Rattle.material.proofs.SizeLaws.{inputs-same, gates-many, is-m}
+use Rattle.material.specs.Answers.{Filed, stepOf, recordsVerdict, recordsAnswer}
+use Rattle.material.proofs.SizeLaws.{inputs-same, gates-many}
 use Rattle.material.proofs.RowLaws.{last-ends, filed-holds}
 
 -- ---- the sizes that check gives are those of the circuit that the bytes are

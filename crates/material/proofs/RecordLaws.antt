@@ -27,7 +27,8 @@ use Rattle.material.specs.declared.reader.Standing.{Standing}
 use Rattle.material.specs.declared.reader.Record.{Record}
 use Rattle.material.specs.Reader.{standingAt, recordOf, isRowOf}
 use Rattle.material.specs.Answers.{Filed, AtGate, stepOf, nextAnswer, gateAnswer, recordsVerdict, recordsAnswer}
-use Rattle.material.proofs.SizeLaws.{inputs-same, code-at, limits, is-n, is-q, few-wires}
+use Rattle.circuit.proofs.AcceptedLaws.{limits, is-n, is-q, few-wires}
+use Rattle.material.proofs.SizeLaws.{inputs-same, code-at}
 use Rattle.material.proofs.ReaderLaws.{isOf, row-record, whole-record, record-stands}
 use Rattle.material.proofs.RowLaws.{row-first, row-next, row-end, row-room, filed-holds}
 

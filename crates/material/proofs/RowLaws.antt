@@ -15,6 +15,7 @@ use Rattle.model.specs.Refusals.{fine, schemeVerdict, fileVerdict, rowStart}
 use Rattle.model.specs.Operations.{sizesOf}
 use Rattle.model.proofs.Lists.{tabulate-take}
 use Rattle.model.proofs.Places.{length-last, start-first, start-next, record-fits}
+use Rattle.model.proofs.Conditions.{scheme-fine}
 use Rattle.model.proofs.Verdicts.{then-fine, refuse-fine, and-both}
 use Rattle.material.specs.Answers.{Filed}
 
@@ -52,12 +53,6 @@ module _ (c s : List ℕ) where
 
 -- ---- none of 12 to 16 holds
 
-pub scheme-known : (k : ℕ) → schemeVerdict k ≡ fine → Known k
-unfolding schemeVerdict
-scheme-known k e =
-    let b = and-both _ _ (not-false _ (refuse-fine _ _ _ e)) in
-    record { low = leb-true _ _ (b .0); high = leb-true _ _ (b .1) }
-
 pub record FileHolds (c s : List ℕ) : Type 0 where
   pub header : 9 ≤ length s
   pub known : Known (getD s 2 0)
@@ -72,7 +67,7 @@ file-holds c s e =
     let f = then-fine _ _ (d .0) in
     record {
       header = ltb-false _ _ (refuse-fine _ _ _ (f .0));
-      known = scheme-known (getD s 2 0) (d .1);
+      known = scheme-fine (getD s 2 0) (d .1);
       whole = eqb-true _ _ (not-false _ (refuse-fine _ _ _ (a .1)));
     }
 

@@ -7,17 +7,13 @@ use lib.ListN.{getD}
 use Rattle.model.specs.declared.Sizes.{Sizes}
 use Rattle.model.specs.Circuit.{circuitOf, gates, charges}
 use Rattle.model.specs.Material.{lastStart}
-use Rattle.model.specs.Refusals.{Verdict, fine, refuse, firstOf, verdictOf, circuitVerdict, fileVerdict, rowStart, rowVerdict}
-use Rattle.model.specs.Operations.{Answer, no, yes, answer, sizesOf}
+use Rattle.model.specs.Refusals.{Verdict, fine, refuse, firstOf, verdictOf, fileVerdict, rowStart, rowVerdict}
+use Rattle.model.specs.Operations.{Answer, no, yes, answer}
+use Rattle.circuit.specs.Accepted.{Accepted}
 use Rattle.material.specs.declared.records.Step.{Step}
 use Rattle.material.specs.Reader.{standingAt, pastAt, isRowOf}
 
--- c is an accepted circuit of sizes z
-pub record Accepted (c : List ℕ) (z : Sizes) : Type 0 where
-  pub accepted : circuitVerdict c ≡ fine
-  pub sizes : z ≡ sizesOf c
-
--- and the header and the length of the material s are right for it
+-- c is an accepted circuit of sizes z, and the header and the length of the material s are right for it
 pub record Filed (c : List ℕ) (z : Sizes) (s : List ℕ) : Type 0 where
   pub circuit : Accepted c z
   pub filed : fileVerdict z s ≡ fine

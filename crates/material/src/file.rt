@@ -7,6 +7,7 @@ ghost use Rattle.model.specs.Operations.{ranOf};
 use crate::marks::mark_at;
 use crate::material_length;
 use buffer::read16;
+use circuit::arguments::check_scheme;
 use model::Ran;
 use model::Refusal;
 use model::Sizes;
@@ -38,17 +39,16 @@ pub fn check_file(material: &[u8], z: Sizes) -> Ran
         return Ran::Refused(Refusal::MaterialMark);
     }
     let scheme = material[2];
-    if scheme < 1 {
-        return Ran::Refused(Refusal::Scheme(scheme));
+    match check_scheme(scheme) {
+        Ran::Refused(f) => Ran::Refused(f),
+        Ran::Done => {
+            if !same_sizes(material, z) {
+                return Ran::Refused(Refusal::MaterialSizes);
+            }
+            if len != material_length(scheme, z.m, z.p) {
+                return Ran::Refused(Refusal::MaterialLength(len));
+            }
+            Ran::Done
+        }
     }
-    if 3 < scheme {
-        return Ran::Refused(Refusal::Scheme(scheme));
-    }
-    if !same_sizes(material, z) {
-        return Ran::Refused(Refusal::MaterialSizes);
-    }
-    if len != material_length(scheme, z.m, z.p) {
-        return Ran::Refused(Refusal::MaterialLength(len));
-    }
-    Ran::Done
 }

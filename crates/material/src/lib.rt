@@ -7,7 +7,7 @@ ghost use Rattle.model.specs.Garbling.{schemeOf};
 ghost use Rattle.model.specs.Material.{lastStart, materialLength};
 ghost use Rattle.model.specs.Refusals.{materialVerdict};
 ghost use Rattle.model.specs.Operations.{ranOf};
-ghost use Rattle.material.specs.Answers.{Accepted};
+ghost use Rattle.circuit.specs.Accepted.{Accepted};
 use crate::file::check_file;
 use crate::last::check_last;
 use crate::records::Step;

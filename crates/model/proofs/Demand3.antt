@@ -14,7 +14,7 @@ use Rattle.model.specs.Garbling.{zeroStep, zeroTokens, inputOnes}
 use Rattle.model.specs.Material.{joinBlocks, material}
 use Rattle.model.specs.Evaluation.{encode, evaluate, decode, encodeBytes, evaluateBytes, decodeBytes, tokenAt, outputTokens}
 use Rattle.model.specs.Demand3.{Allowed, chained, chainMaterial, chainZeros, chainOnes, chainInputs, chainTokens, chainBits, carries, distanceAt, Demand3, OnlyRoom}
-use Rattle.model.specs.Refusals.{fine, refuse, _then_, seedVerdict, valueVerdict, bitsVerdict, tokensVerdict, schemeVerdict, materialVerdict}
+use Rattle.model.specs.Refusals.{fine, refuse, _then_, seedVerdict, valueVerdict, bitsVerdict, valuesVerdict, tokensVerdict, schemeVerdict, materialVerdict}
 use Rattle.model.specs.Operations.{garbleVerdict, encodeVerdict, evaluateVerdict, decodeVerdict}
 use Rattle.model.proofs.Lists.{tabulate-length}
 use Rattle.model.proofs.Outputs.{outputs-many}
@@ -163,7 +163,7 @@ module _ (c seed : List ℕ) (scheme : ℕ) (values : List ℕ) (allowed : Allow
   zeros-front = length-take-le _ _ (omega (arith, zeros-long))
 
   pub only-room : OnlyRoom c seed scheme values
-  unfolding garbleVerdict encodeVerdict evaluateVerdict decodeVerdict seedVerdict schemeVerdict tokensVerdict refuse _then_
+  unfolding garbleVerdict encodeVerdict evaluateVerdict decodeVerdict seedVerdict valuesVerdict schemeVerdict tokensVerdict refuse _then_
   only-room = record {
     garble-room = λ km kz ko.
         simp (allowed .accepted, eq-eqb _ _ (allowed .seed-bytes), le-leb _ _ (allowed .known .low), le-leb _ _ (allowed .known .high));

@@ -7,6 +7,7 @@ pub mod Xor
 pub mod Field
 pub mod Circuits
 pub mod Verdicts
+pub mod Conditions
 pub mod Examples
 pub mod Program
 pub mod Bits

@@ -6,8 +6,10 @@ use native.Mathlib.Omega.{arith}
 use mathlib.Core.Logic.{⊎-elim}
 use mathlib.Core.Path.{_≡_, refl}
 use mathlib.Core.Bool.{Bool, true, false, _&&_}
-use Rattle.model.specs.Refusals.{Verdict, fine, refused, refuse, _then_, firstOf}
-use Rattle.model.specs.Operations.{no, yes, answer}
+use Rattle.model.specs.declared.Ran.{Ran}
+use Rattle.model.specs.declared.Refusal.{Refusal}
+use Rattle.model.specs.Refusals.{Verdict, fine, refused, refuse, _then_, firstOf, verdictOf}
+use Rattle.model.specs.Operations.{no, yes, answer, ranOf}
 
 -- ---- what `fine` tells
 
@@ -24,6 +26,34 @@ refuse-fine false i x e = refl
 pub and-both : (a b : Bool) → (a && b) ≡ true → (a ≡ true) × (b ≡ true)
 and-both true b e = (refl, e)
 and-both false b e = absurd (let z : _≡_ {A = ℕ} 0 1 = cc in omega arith)
+
+-- ---- refusals as steps: each is tried once those before it are done, and the first that refuses is the answer
+
+-- where a step refuses, so does all that starts with it
+pub then-refused : (i x : ℕ) (v w : Verdict) → refused i x ≡ v → refused i x ≡ (v then w)
+unfolding _then_
+then-refused i x v w e = rw (← e)
+
+-- where it is done, what comes after it decides
+pub then-done : (u v w : Verdict) → fine ≡ v → u ≡ w → u ≡ (v then w)
+unfolding _then_
+then-done u v w e g = rw (← e, g)
+
+pub then-assoc : (u v w : Verdict) → ((u then v) then w) ≡ (u then (v then w))
+unfolding _then_
+then-assoc fine v w = refl
+then-assoc (refused i x) v w = refl
+
+-- a step that answered r
+module _ (r : Ran) (v : Verdict) (is-r : ranOf r ≡ v) where
+  pub ran-refused : (f : Refusal) → r ≡ Ran.Refused f → verdictOf f ≡ v
+  ran-refused f e = rw e at is-r
+
+  pub ran-done : r ≡ Ran.Done → fine ≡ v
+  ran-done e = rw e at is-r
+
+-- whatever a chain of steps answers
+pub ruleset steps = (then-refused, then-done, ran-refused, ran-done)
 
 -- ---- a search by index
 
@@ -80,6 +110,12 @@ pub record Turned (v w : Verdict) : Type 0 where
 pub no-turned : {A : Type 0} (v w : Verdict) (a : A) → no w ≡ answer v a → Turned v w
 no-turned fine w a e = absurd (let z : _≡_ {A = ℕ} 0 1 = cc in omega arith)
 no-turned (refused i x) w a e = record { number = i; place = x; is-v = refl; is-w = cc }
+
+pub no-given : {A : Type 0} (v w : Verdict) (a : A) → no w ≡ answer v a → w ≡ v
+no-given {A} v w a e = go (no-turned v w a e)
+  where
+    go : Turned v w → w ≡ v
+    go t = rw (t .is-v, t .is-w)
 
 -- a refusal is given whatever the results would have been
 pub no-other : {A B : Type 0} (v w : Verdict) (a : A) (b : B) → no w ≡ answer v a → no w ≡ answer v b

@@ -2,7 +2,7 @@
 use Prim.Native.Nat.{ℕ, _+_, _*_}
 use mathlib.Core.Path.{_≡_}
 use mathlib.Core.List.{List, []}
-use mathlib.Core.Bool.{not, cond}
+use mathlib.Core.Bool.{cond}
 use lib.ListN.{length, getD, drop}
 use lib.Dec.{ltb, eqb}
 use Rattle.model.specs.declared.Sizes.{Sizes}
@@ -18,7 +18,7 @@ use Rattle.model.specs.Garbling.{zeroTokens, inputOnes}
 use Rattle.model.specs.Material.{materialLength, joinBlocks, material}
 use Rattle.model.specs.Evaluation.{cut, encodeBytes, evaluateBytes, decodeBytes, tokenAt}
 use Rattle.model.specs.Calls.{garbleCalls, evaluateCalls}
-use Rattle.model.specs.Refusals.{Verdict, fine, refused, refuse, _then_, verdictOf, circuitVerdict, seedVerdict, bitsVerdict, tokensVerdict, schemeVerdict, materialVerdict, roomVerdict, pickVerdict}
+use Rattle.model.specs.Refusals.{Verdict, fine, refused, refuse, _then_, verdictOf, circuitVerdict, seedVerdict, valuesVerdict, tokensVerdict, schemeVerdict, materialVerdict, roomVerdict, pickVerdict}
 
 -- what an operation answers: a refusal, or its results
 pub data Answer (A : Type 0) : Type 0 where
@@ -57,8 +57,7 @@ ranOf (Ran.Refused f) = verdictOf f
 unfoldable pub plainVerdict : List ℕ → List ℕ → ℕ → Verdict
 plainVerdict c v room =
     circuitVerdict c
-    then refuse (not (eqb (length v) (inputs c))) 9 (length v)
-    then bitsVerdict v
+    then valuesVerdict (inputs c) v
     then roomVerdict (inputs c + gates c) room
 
 -- plain's answer r, and the buffer, o at entry and x at exit
@@ -104,8 +103,7 @@ pub record GarbleIs (c seed : List ℕ) (scheme : ℕ) (m z o : List ℕ) (r : A
 unfoldable pub encodeVerdict : List ℕ → List ℕ → List ℕ → List ℕ → ℕ → Verdict
 encodeVerdict c v zs os room =
     circuitVerdict c
-    then refuse (not (eqb (length v) (inputs c))) 9 (length v)
-    then bitsVerdict v
+    then valuesVerdict (inputs c) v
     then tokensVerdict (inputs c) zs
     then tokensVerdict (inputs c) os
     then roomVerdict (16 * inputs c) room

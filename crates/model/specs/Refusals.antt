@@ -140,6 +140,10 @@ valueVerdict v i = refuse (ltb 1 (getD v i 0)) 10 i
 abbrev pub bitsVerdict : List ℕ → Verdict
 bitsVerdict v = firstOf (valueVerdict v) (length v)
 
+-- 9: "The value list has not n bytes (its length)."; and 10
+unfoldable pub valuesVerdict : ℕ → List ℕ → Verdict
+valuesVerdict n v = refuse (not (eqb (length v) n)) 9 (length v) then bitsVerdict v
+
 -- ---- 11: "A token list handed in has the wrong length": k tokens of 16 bytes are due
 
 unfoldable pub tokensVerdict : ℕ → List ℕ → Verdict

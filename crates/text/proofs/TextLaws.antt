@@ -1,19 +1,20 @@
 -- The whole text: a law for each return. Assumes nothing.
-use Prim.Native.Nat.{ℕ, _+_, _≤_, _<_}
+use Prim.Native.Nat.{ℕ, _≤_, _<_}
 use native.Mathlib.Omega.{arith}
-use mathlib.Core.Path.{_≡_, refl, sym, ap, _∙_}
-use mathlib.Core.List.{List, _++_}
-use lib.ListN.{length, take, drop, replicate}
+use mathlib.Core.Path.{_≡_, ap, _∙_}
+use mathlib.Core.List.{List}
+use lib.ListN.{length, take, replicate}
 use lib.Seq.{take-at}
 use Rattle.model.specs.declared.Refusal.{Refusal}
 use Rattle.model.specs.declared.Sizes.{Sizes}
 use Rattle.model.specs.declared.Checked.{Checked}
 use Rattle.model.specs.Bytes.{over, put}
-use Rattle.model.specs.Refusals.{verdictOf, numberOf, placeOf, circuitVerdict}
-use Rattle.model.specs.Operations.{sizesOf, checkedOf, checkAnswer}
-use Rattle.model.specs.Program.{sizesLine, lengthsLine, refusedLine, tooLongLine, checkText, programText}
-use Rattle.model.proofs.Verdicts.{yes-given, no-turned, Given, Turned}
+use Rattle.model.specs.Refusals.{numberOf, placeOf}
+use Rattle.model.specs.Operations.{checkedOf, checkAnswer}
+use Rattle.model.specs.Program.{sizesLine, lengthsLine, refusedLine, tooLongLine, programText}
 use Rattle.model.proofs.Program.{program-long, program-checked}
+use Rattle.circuit.specs.Accepted.{Accepted}
+use Rattle.circuit.proofs.AcceptedLaws.{check-refused, check-accepted}
 use Rattle.text.specs.Written.{Wrote, TextIs}
 use Rattle.text.proofs.WriteLaws.{wrote-then}
 
@@ -28,19 +29,16 @@ module _ (s o : List ℕ) (r : ℕ) (left : List ℕ) where
 
   module _ (short : length s ≤ 65536) (t : Checked) (is-t : checkedOf t ≡ checkAnswer s) where
     pub text-refused : (f : Refusal) → t ≡ Checked.Refused f → Wrote 50 (refusedLine (numberOf f) (placeOf f)) o 0 r left → Wrote 147 (programText s) o 0 r left
-    text-refused f e w = as-text 50 _ (programText s) o r left (omega arith) (program-checked s short ∙ go (no-turned (circuitVerdict s) (verdictOf f) (sizesOf s) (rw e at is-t))) w
-      where
-        go : Turned (circuitVerdict s) (verdictOf f) → checkText (circuitVerdict s) (sizesOf s) ≡ refusedLine (numberOf f) (placeOf f)
-        go d = ap (λ v. checkText v (sizesOf s)) (d .is-v ∙ sym (d .is-w))
+    text-refused f e w = as-text 50 _ (programText s) o r left (omega arith) (program-checked s short ∙ rw (← check-refused s t is-t f e)) w
 
     pub text-accepted : (z : Sizes) (a : ℕ) (p : List ℕ)
         → t ≡ Checked.Accepted z → 147 ≤ length o → Wrote 84 (sizesLine z) o 0 a p → Wrote 63 (lengthsLine (z .m) (z .p)) p a r left
         → Wrote 147 (programText s) o 0 r left
-    text-accepted z a p e h w v = as-text 147 _ (programText s) o r left (omega arith) (program-checked s short ∙ rw (told .is-fine, ← told .is-result))
+    text-accepted z a p e h w v = as-text 147 _ (programText s) o r left (omega arith) (program-checked s short ∙ rw (known .accepted, ← known .sizes))
         (wrote-then 84 63 (sizesLine z) (lengthsLine (z .m) (z .p)) o 0 a r p left (omega arith) w v)
       where
-        told : Given (circuitVerdict s) z (sizesOf s)
-        told = yes-given (circuitVerdict s) z (sizesOf s) (rw e at is-t)
+        known : Accepted s z
+        known = check-accepted s t is-t z e
 
 pub text-is : (s left : List ℕ) (len : ℕ) → Wrote 147 (programText s) (replicate 147 0) 0 len left → TextIs s left len
 unfolding put over

@@ -1,5 +1,5 @@
 use borrow.Author.Needs.{needs}
-use Rattle.material.proofs.SizeLaws.{few-outputs, few-charges}
+use Rattle.circuit.proofs.AcceptedLaws.{few-outputs, few-charges}
 use Rattle.material.proofs.MaterialLaws.{material-calls, material-cases}
 use Rattle.material.proofs.check_material.Statement.{statement}
 use Rattle.material.proofs.check_material.Tie as tie

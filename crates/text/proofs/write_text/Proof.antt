@@ -1,11 +1,11 @@
 use borrow.Author.Needs.{needs}
-use Rattle.circuit.proofs.CheckLaws.{few-outputs, few-charges}
+use Rattle.circuit.proofs.AcceptedLaws.{check-outputs, check-charges}
 use Rattle.text.proofs.TextLaws.{text-long, text-refused, text-accepted}
 use Rattle.text.proofs.write_text.Statement.{statement}
 use Rattle.text.proofs.write_text.Tie as tie
 
 write-lengths-requires : tie.Need-write-lengths-requires
-write-lengths-requires c κs = (search needs, search few-outputs, search few-charges)
+write-lengths-requires c κs = (search needs, search check-outputs, search check-charges)
 
 pub write-text-spec : {M : Type 1} → statement M
 write-text-spec =

@@ -1,10 +1,13 @@
 use borrow.Author.Needs.{needs}
-use Rattle.circuit.proofs.GateLaws.{gate-cases}
+use Rattle.model.specs.Circuit.{operandsHold}
+use Rattle.model.specs.Refusals.{gateVerdict}
+use Rattle.model.proofs.Conditions.{conditions}
 use Rattle.circuit.proofs.gates.read_gate.Statement.{statement}
 use Rattle.circuit.proofs.gates.read_gate.Tie as tie
 
 pub read-gate-spec : {M : Type 1} → statement M
+unfolding gateVerdict operandsHold
 read-gate-spec =
     tie.close
-    (tie.spec (λ c. search gate-cases) (λ c. search gate-cases) (λ c. search gate-cases) (λ c κs. search needs)
-    (λ c. search gate-cases) (λ c κs. search needs) (λ c. search gate-cases))
+    (tie.spec (λ c. search conditions depth 10) (λ c. search conditions depth 10) (λ c. search conditions depth 10) (λ c κs. search needs)
+    (λ c. search conditions depth 10) (λ c κs. search needs) (λ c. search conditions depth 10))

@@ -1,10 +1,13 @@
-use Rattle.circuit.proofs.HeaderLaws.{sizes-cases}
+use Rattle.model.specs.Circuit.{sizesHold}
+use Rattle.model.proofs.Conditions.{conditions}
+use Rattle.circuit.proofs.HeaderLaws.{a-gate}
 use borrow.Author.Needs.{needs}
 use Rattle.circuit.proofs.header.sizes_hold.Statement.{statement}
 use Rattle.circuit.proofs.header.sizes_hold.Tie as tie
 
 pub sizes-hold-spec : {M : Type 1} → statement M
+unfolding sizesHold
 sizes-hold-spec =
     tie.close
-    (tie.spec (λ c. search sizes-cases) (λ c. search sizes-cases) (λ c. search sizes-cases)
-    (λ c. search sizes-cases) (λ c. search needs) (λ c. search sizes-cases) (λ c. search sizes-cases))
+    (tie.spec (λ c. search (conditions, a-gate) depth 10) (λ c. search (conditions, a-gate) depth 10) (λ c. search (conditions, a-gate) depth 10)
+    (λ c. search (conditions, a-gate) depth 10) (λ c. search needs) (λ c. search (conditions, a-gate) depth 10) (λ c. search (conditions, a-gate) depth 10))

@@ -15,15 +15,18 @@ last-start-requires c κs =
 
 write-last-requires : tie.Need-write-last-requires
 write-last-requires c κs =
-    let gates = c .before .before .before in
+    let start = c .before .before in
+    let gates = start .before .before .before .before .before in
     let pre = gates .before .before .before .before .before .before .before .pre in
-    body-last _ _ _ _ _ _ _ (pre .1 .1 .0) _ _ _ (pre .1 .1 .1) _ _ _ (gates .garble-gates .ensures) _ (c .before .last-start .ensures)
+    body-last _ _ _ _ _ _ _ (pre .1 .1 .0) _ _ _ (pre .1 .1 .1) _ _ _ (gates .garble-gates .ensures) _ (start .last-start .ensures .0)
 
 returns : tie.Need-returns
 returns c =
-    let gates = c .before .before .before .before .before .before in
+    let last = c .before .before in
+    let start = last .before .before .before in
+    let gates = start .before .before .before .before .before in
     let pre = gates .before .before .before .before .before .before .before .pre in
-    body-done _ _ _ _ _ _ _ (pre .1 .1 .0) _ _ _ (pre .1 .1 .1) _ _ _ (gates .garble-gates .ensures) _ (c .before .before .before .before .last-start .ensures) _ (c .before .before .write-last .ensures)
+    body-done _ _ _ _ _ _ _ (pre .1 .1 .0) _ _ _ (pre .1 .1 .1) _ _ _ (gates .garble-gates .ensures) _ (start .last-start .ensures .0) _ (last .write-last .ensures)
 
 pub garble-body-spec : {M : Type 1} → statement M
 garble-body-spec =

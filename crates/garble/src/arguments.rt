@@ -1,0 +1,68 @@
+// The refusals of garble and encode once the circuit is accepted, each in its order: nothing is written here.
+ghost use mathlib.Core.Path.{_≡_};
+ghost use Rattle.model.specs.Material.{materialLength};
+ghost use Rattle.model.specs.Refusals.{roomVerdict};
+ghost use Rattle.model.specs.Operations.{ranOf};
+ghost use Rattle.circuit.specs.Accepted.{Bounded};
+ghost use Rattle.garble.specs.Answers.{roomsVerdict, garbleArguments, encodeArguments};
+use circuit::arguments::check_room;
+use circuit::arguments::check_scheme;
+use circuit::arguments::check_seed;
+use circuit::arguments::check_tokens;
+use circuit::arguments::check_values;
+use material::material_length;
+use model::Ran;
+use model::Sizes;
+
+// 19 for the material.
+fn check_file_room(z: Sizes, scheme: u8, room: usize) -> Ran
+    requires { ⌜ Bounded z ⌝ }
+    ensures { λ r. ⌜ ranOf r ≡ roomVerdict (materialLength scheme (z .m) (z .p)) room ⌝ }
+{
+    check_room(material_length(scheme, z.m, z.p), room)
+}
+
+// 19 for the material, the zeros and the ones, whose lengths are given.
+fn check_rooms(z: Sizes, scheme: u8, km: usize, kz: usize, ko: usize) -> Ran
+    requires { ⌜ Bounded z ⌝ }
+    ensures { λ r. ⌜ ranOf r ≡ roomsVerdict z scheme km kz ko ⌝ }
+{
+    match check_file_room(z, scheme, km) {
+        Ran::Refused(f) => Ran::Refused(f),
+        Ran::Done => match check_room(16 * (z.n + z.q), kz) {
+            Ran::Refused(f) => Ran::Refused(f),
+            Ran::Done => check_room(16 * z.n, ko),
+        },
+    }
+}
+
+// Garble's: 8, 14, 19.
+pub fn garble_arguments(z: Sizes, seed: &[u8], scheme: u8, km: usize, kz: usize, ko: usize) -> Ran
+    requires { ⌜ Bounded z ⌝ }
+    ensures { λ r. ⌜ ranOf r ≡ garbleArguments z (now (seed .entry)) scheme km kz ko ⌝ }
+{
+    match check_seed(seed) {
+        Ran::Refused(f) => Ran::Refused(f),
+        Ran::Done => match check_scheme(scheme) {
+            Ran::Refused(f) => Ran::Refused(f),
+            Ran::Done => check_rooms(z, scheme, km, kz, ko),
+        },
+    }
+}
+
+// Encode's: 9, 10, 11 for the zeros and the ones, 19.
+pub fn encode_arguments(z: Sizes, values: &[u8], zeros: &[u8], ones: &[u8], room: usize) -> Ran
+    requires { ⌜ Bounded z ⌝ }
+    ensures { λ r. ⌜ ranOf r ≡ encodeArguments z (now (values .entry)) (now (zeros .entry)) (now (ones .entry)) room ⌝ }
+{
+    match check_values(z.n, values) {
+        Ran::Refused(f) => Ran::Refused(f),
+        Ran::Done => match check_tokens(z.n, zeros) {
+            Ran::Refused(f) => Ran::Refused(f),
+            Ran::Done => match check_tokens(z.n, ones) {
+                Ran::Refused(f) => Ran::Refused(f),
+                Ran::Done => check_room(16 * z.n, room),
+            },
+        },
+    }
+}
