@@ -9,6 +9,7 @@ use lib.Dec.{eqb}
 use lib.Bits.{differ}
 use lib.ListN.{length}
 use Rattle.model.specs.declared.Gate.{Gate}
+use Rattle.model.specs.declared.Wanted.{Wanted}
 use Rattle.model.specs.Circuit.{Kind, charged, free, refused, kindOf, charge, charges, circuitOf, outputs, wire, wires}
 use Rattle.model.specs.Aes.{Block, _⊕_, block}
 use Rattle.model.specs.Tokens.{Garbling, colour, garblingOf, inputZeros}
@@ -72,10 +73,10 @@ module _ (γ : Garbling) where
   garble-calls-all (g ∷ gs) xs =
       omega (arith, garble-calls-at (kindOf (g .code)) (siteOf γ xs g), garble-calls-all gs (xs ++ (zeroStep γ xs g ∷ [])))
 
-pub garble-made-4p : (c seed : List ℕ) (scheme : ℕ)
-    → garbleMade c seed scheme ≡ made (materialLength scheme (outputs c) (charges (circuitOf c .gates))) (4 * charges (circuitOf c .gates))
+pub garble-made-4p : (c seed : List ℕ) (want : Wanted)
+    → garbleMade c seed want ≡ made (materialLength (want .scheme) (outputs c) (charges (circuitOf c .gates))) (4 * charges (circuitOf c .gates))
 unfolding garbleMade
-garble-made-4p c seed scheme = rw (garble-calls-all (garblingOf c seed scheme) (circuitOf c .gates) (inputZeros (garblingOf c seed scheme)))
+garble-made-4p c seed want = rw (garble-calls-all (garblingOf c seed want) (circuitOf c .gates) (inputZeros (garblingOf c seed want)))
 
 module _ (k : ℕ) where
   pub evaluate-calls-at : (kind : Kind) (g : ℕ) (A B : Block) → evaluateCallsAt k kind g A B ≡ charge kind * askedHeld k

@@ -7,6 +7,7 @@ use borrow.Author.Tests.{le-ltb, le-leb, eq-eqb}
 use lib.ListN.{length, take}
 use lib.Seq.{take-at, length-take-le}
 use Rattle.model.specs.declared.Gate.{Gate}
+use Rattle.model.specs.declared.Wanted.{Wanted}
 use Rattle.model.specs.Circuit.{inputs, outputs, gates, gateAt, circuitOf, wire, wires, plainValues}
 use Rattle.model.specs.Aes.{Block, block}
 use Rattle.model.specs.Tokens.{Garbling, offset, inputZeros}
@@ -53,9 +54,9 @@ zero-tokens-begin γ =
     let r = wires-begin (zeroStep γ) (γ .circuit .gates) (inputZeros γ) in
     rw (r .1, join-append) (take-at (joinBlocks (inputZeros γ)) _ (16 * γ .circuit .n) (join-length (input-zeros-blocks γ)))
 
-module _ (c seed : List ℕ) (scheme : ℕ) (values : List ℕ) (allowed : Allowed c seed scheme values) where
+module _ (c seed : List ℕ) (want : Wanted) (values : List ℕ) (allowed : Allowed c seed want values) where
   abbrev γ : Garbling
-  γ = chained c seed scheme values
+  γ = chained c seed want values
 
   many : length values ≡ circuitOf c .n
   unfolding circuitOf
@@ -92,7 +93,7 @@ module _ (c seed : List ℕ) (scheme : ℕ) (values : List ℕ) (allowed : Allow
   -- ---- what the operations hand on
 
   -- encode gets the inputs' zero and one tokens
-  inputs-are : chainInputs c seed scheme values ≡ joinBlocks held
+  inputs-are : chainInputs c seed want values ≡ joinBlocks held
   unfolding chainInputs encodeBytes chainZeros chainOnes held circuitOf
   inputs-are = rw (zero-tokens-begin γ, cut-join (input-zeros-blocks γ), cut-join (input-ones-blocks γ))
 
@@ -100,41 +101,41 @@ module _ (c seed : List ℕ) (scheme : ℕ) (values : List ℕ) (allowed : Allow
   held-blocks = rw many at (tokens-blocks inputs-held)
 
   -- and evaluate what was encoded
-  tokens-are : chainTokens c seed scheme values ≡ joinBlocks left
+  tokens-are : chainTokens c seed want values ≡ joinBlocks left
   unfolding chainTokens evaluateBytes left chainMaterial
   tokens-are = rw (inputs-are, cut-join held-blocks)
 
   -- how many bytes each of them is
-  pub inputs-long : length (chainInputs c seed scheme values) ≡ 16 * inputs c
+  pub inputs-long : length (chainInputs c seed want values) ≡ 16 * inputs c
   unfolding circuitOf
   inputs-long = rw inputs-are (join-length held-blocks)
 
-  pub tokens-long : length (chainTokens c seed scheme values) ≡ 16 * (inputs c + gates c)
+  pub tokens-long : length (chainTokens c seed want values) ≡ 16 * (inputs c + gates c)
   tokens-long = rw (tokens-are, ← wires-many) (join-length left-blocks)
 
-  pub zeros-long : length (chainZeros c seed scheme values) ≡ 16 * (inputs c + gates c)
+  pub zeros-long : length (chainZeros c seed want values) ≡ 16 * (inputs c + gates c)
   unfolding chainZeros
   zeros-long = rw (← wires-many) (join-length (zero-tokens-blocks γ))
 
-  pub ones-long : length (chainOnes c seed scheme values) ≡ 16 * inputs c
+  pub ones-long : length (chainOnes c seed want values) ≡ 16 * inputs c
   unfolding chainOnes circuitOf
   ones-long = join-length (input-ones-blocks γ)
 
   -- a wire's token, as it was left, and its zero token
-  left-at : (w : ℕ) → 1 ≤ w → w ≤ inputs c + gates c → tokenAt (chainTokens c seed scheme values) w ≡ wire (block 0) left w
+  left-at : (w : ℕ) → 1 ≤ w → w ≤ inputs c + gates c → tokenAt (chainTokens c seed want values) w ≡ wire (block 0) left w
   left-at w h l = rw tokens-are (token-at-wire left-blocks w h (rw wires-many l))
 
-  zero-at : (w : ℕ) → 1 ≤ w → w ≤ inputs c + gates c → tokenAt (chainZeros c seed scheme values) w ≡ wire (block 0) (zeroTokens γ) w
+  zero-at : (w : ℕ) → 1 ≤ w → w ≤ inputs c + gates c → tokenAt (chainZeros c seed want values) w ≡ wire (block 0) (zeroTokens γ) w
   unfolding chainZeros
   zero-at w h l = token-at-wire (zero-tokens-blocks γ) w h (rw wires-many l)
 
   -- every wire holds its token
   wire-holds : (w : ℕ) → 1 ≤ w → w ≤ inputs c + gates c
-      → Holds (offset γ) (carries c values w) (tokenAt (chainZeros c seed scheme values) w) (tokenAt (chainTokens c seed scheme values) w)
+      → Holds (offset γ) (carries c values w) (tokenAt (chainZeros c seed want values) w) (tokenAt (chainTokens c seed want values) w)
   unfolding carries
   wire-holds w h l = rw (left-at w h l, zero-at w h l) (hold-at all-held (w - 1) (omega (arith, as-many, wires-many)))
 
-  bits-decoded : chainBits c seed scheme values ≡ map (carries c values) (circuitOf c .outputs)
+  bits-decoded : chainBits c seed want values ≡ map (carries c values) (circuitOf c .outputs)
   unfolding chainBits decodeBytes outputTokens decode chainMaterial carries
   bits-decoded =
       let within = holds .outputs-within in
@@ -143,13 +144,13 @@ module _ (c seed : List ℕ) (scheme : ℕ) (values : List ℕ) (allowed : Allow
 
   -- ---- nothing but 19 refuses what is handed on
 
-  outputs-long : length (outputTokens (circuitOf c) (chainTokens c seed scheme values)) ≡ 16 * outputs c
+  outputs-long : length (outputTokens (circuitOf c) (chainTokens c seed want values)) ≡ 16 * outputs c
   unfolding outputTokens
   outputs-long =
       let within = holds .outputs-within in
       rw (tokens-are, tokens-at left-blocks within, ← outputs-many c) (join-length (wires-blocks left-blocks within))
 
-  material-fine : materialVerdict (circuitOf c) (chainMaterial c seed scheme values) ≡ fine
+  material-fine : materialVerdict (circuitOf c) (chainMaterial c seed want values) ≡ fine
   unfolding chainMaterial
   material-fine =
       let h = accepted-header c (allowed .accepted) .sizes in
@@ -159,10 +160,10 @@ module _ (c seed : List ℕ) (scheme : ℕ) (values : List ℕ) (allowed : Allow
   unfolding valueVerdict refuse
   bits-fine = first-all _ (length values) (λ i h. rw (le-ltb _ _ (allowed .bits i)))
 
-  zeros-front : length (take (16 * inputs c) (chainZeros c seed scheme values)) ≡ 16 * inputs c
+  zeros-front : length (take (16 * inputs c) (chainZeros c seed want values)) ≡ 16 * inputs c
   zeros-front = length-take-le _ _ (omega (arith, zeros-long))
 
-  pub only-room : OnlyRoom c seed scheme values
+  pub only-room : OnlyRoom c seed want values
   unfolding garbleVerdict encodeVerdict evaluateVerdict decodeVerdict seedVerdict valuesVerdict schemeVerdict tokensVerdict refuse _then_
   only-room = record {
     garble-room = λ km kz ko.
@@ -174,12 +175,12 @@ module _ (c seed : List ℕ) (scheme : ℕ) (values : List ℕ) (allowed : Allow
   }
 
 -- The theorem.
-pub demand-3 : (c seed : List ℕ) (scheme : ℕ) (values : List ℕ) → Allowed c seed scheme values → Demand3 c seed scheme values
+pub demand-3 : (c seed : List ℕ) (want : Wanted) (values : List ℕ) → Allowed c seed want values → Demand3 c seed want values
 unfolding distanceAt
-demand-3 c seed scheme values allowed =
-    let R = offset-is (chained c seed scheme values) in
+demand-3 c seed want values allowed =
+    let R = offset-is (chained c seed want values) in
     record {
-      at-zero = λ w h l. holds-distances R (wire-holds c seed scheme values allowed w h l) .zero-if-0;
-      at-one = λ w h l. holds-distances R (wire-holds c seed scheme values allowed w h l) .offset-if-1;
-      decoded = bits-decoded c seed scheme values allowed;
+      at-zero = λ w h l. holds-distances R (wire-holds c seed want values allowed w h l) .zero-if-0;
+      at-one = λ w h l. holds-distances R (wire-holds c seed want values allowed w h l) .offset-if-1;
+      decoded = bits-decoded c seed want values allowed;
     }

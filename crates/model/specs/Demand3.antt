@@ -4,6 +4,7 @@ use mathlib.Core.Path.{_≡_}
 use mathlib.Core.Logic.{_↔_}
 use mathlib.Core.List.{List, map}
 use lib.ListN.{length, getD, take}
+use Rattle.model.specs.declared.Wanted.{Wanted}
 use Rattle.model.specs.Circuit.{charges, circuitOf, inputs, outputs, gates, wire, plainValues}
 use Rattle.model.specs.Aes.{Block, block}
 use Rattle.model.specs.Tokens.{Garbling, garblingOf, distance, offset}
@@ -14,9 +15,9 @@ use Rattle.model.specs.Refusals.{fine, _then_, circuitVerdict, roomVerdi
 use Rattle.model.specs.Operations.{garbleVerdict, encodeVerdict, evaluateVerdict, decodeVerdict}
 
 -- "every accepted circuit, each scheme, every 16-byte seed and every list of input bits, one for each input"
-pub record Allowed (c seed : List ℕ) (scheme : ℕ) (values : List ℕ) : Type 0 where
+pub record Allowed (c seed : List ℕ) (want : Wanted) (values : List ℕ) : Type 0 where
   pub accepted : circuitVerdict c ≡ fine
-  pub known : Known scheme
+  pub known : Known (want .scheme)
   pub seed-bytes : length seed ≡ 16
   pub one-each : length values ≡ inputs c
   pub bits : (i : ℕ) → getD values i 0 ≤ 1
@@ -25,10 +26,10 @@ pub record Allowed (c seed : List ℕ) (scheme : ℕ) (values : List ℕ) : Type
 unfoldable pub carries : List ℕ → List ℕ → ℕ → ℕ
 carries c values w = wire 0 (plainValues (circuitOf c) values) w
 
-module _ (c seed : List ℕ) (scheme : ℕ) (values : List ℕ) where
+module _ (c seed : List ℕ) (want : Wanted) (values : List ℕ) where
   -- "The circuit is garbled by that scheme from that seed"
   abbrev pub chained : Garbling
-  chained = garblingOf c seed scheme
+  chained = garblingOf c seed want
 
   unfoldable pub chainMaterial : List ℕ
   chainMaterial = material chained
@@ -65,8 +66,8 @@ module _ (c seed : List ℕ) (scheme : ℕ) (values : List ℕ) where
 
   -- "With the arguments that demand 3 names, only 19 can refuse one of the four": each says what its buffers' rooms say
   pub record OnlyRoom : Type 0 where
-    pub garble-room : (km kz ko : ℕ) → garbleVerdict c seed scheme km kz ko
-        ≡ (roomVerdict (materialLength scheme (outputs c) (charges (circuitOf c .gates))) km
+    pub garble-room : (km kz ko : ℕ) → garbleVerdict c seed want km kz ko
+        ≡ (roomVerdict (materialLength (want .scheme) (outputs c) (charges (circuitOf c .gates))) km
         then roomVerdict (16 * (inputs c + gates c)) kz
         then roomVerdict (16 * inputs c) ko)
     pub encode-room : (k : ℕ) → encodeVerdict c values (take (16 * inputs c) chainZeros) chainOnes k ≡ roomVerdict (16 * inputs c) k

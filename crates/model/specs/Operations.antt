@@ -11,6 +11,7 @@ use Rattle.model.specs.declared.Ran.{Ran}
 use Rattle.model.specs.declared.Garbled.{Garbled}
 use Rattle.model.specs.declared.Evaluated.{Evaluated}
 use Rattle.model.specs.declared.Gate.{Gate}
+use Rattle.model.specs.declared.Wanted.{Wanted}
 use Rattle.model.specs.Bytes.{over}
 use Rattle.model.specs.Circuit.{charges, circuitOf, inputs, outputs, gates, circuitBytes, plainValues}
 use Rattle.model.specs.Tokens.{garblingOf, inputZeros}
@@ -68,12 +69,12 @@ pub record PlainIs (c v o : List ℕ) (r : Verdict) (x : List ℕ) : Type 0 wher
 -- ---- "Garble (circuit, seed, scheme as a byte): material; zero tokens of all wires, 16(n+q) bytes; one tokens of the inputs, 16n bytes"
 
 -- 1 to 7, 8, 14, and 19 for the three buffers in turn, of the lengths km, kz and ko
-unfoldable pub garbleVerdict : List ℕ → List ℕ → ℕ → ℕ → ℕ → ℕ → Verdict
-garbleVerdict c seed scheme km kz ko =
+unfoldable pub garbleVerdict : List ℕ → List ℕ → Wanted → ℕ → ℕ → ℕ → Verdict
+garbleVerdict c seed want km kz ko =
     circuitVerdict c
     then seedVerdict seed
-    then schemeVerdict scheme
-    then roomVerdict (materialLength scheme (outputs c) (charges (circuitOf c .gates))) km
+    then schemeVerdict (want .scheme)
+    then roomVerdict (materialLength (want .scheme) (outputs c) (charges (circuitOf c .gates))) km
     then roomVerdict (16 * (inputs c + gates c)) kz
     then roomVerdict (16 * inputs c) ko
 
@@ -85,17 +86,17 @@ garbledOf (Garbled.Done l k) = yes (made l k)
 garbledOf (Garbled.Refused f) = no (verdictOf f)
 
 -- "Returns the material's length and the calls of π made"
-unfoldable pub garbleMade : List ℕ → List ℕ → ℕ → Made
-garbleMade c seed scheme =
-    made (materialLength scheme (outputs c) (charges (circuitOf c .gates)))
-    (garbleCalls (garblingOf c seed scheme) (circuitOf c .gates) (inputZeros (garblingOf c seed scheme)))
+unfoldable pub garbleMade : List ℕ → List ℕ → Wanted → Made
+garbleMade c seed want =
+    made (materialLength (want .scheme) (outputs c) (charges (circuitOf c .gates)))
+    (garbleCalls (garblingOf c seed want) (circuitOf c .gates) (inputZeros (garblingOf c seed want)))
 
 -- garble's answer r, and its three buffers: m, z, o at entry and m′, z′, o′ at exit
-pub record GarbleIs (c seed : List ℕ) (scheme : ℕ) (m z o : List ℕ) (r : Answer Made) (m′ z′ o′ : List ℕ) : Type 0 where
-  pub answered : r ≡ answer (garbleVerdict c seed scheme (length m) (length z) (length o)) (garbleMade c seed scheme)
-  pub material-left : m′ ≡ written (garbleVerdict c seed scheme (length m) (length z) (length o)) (material (garblingOf c seed scheme)) m
-  pub zeros-left : z′ ≡ written (garbleVerdict c seed scheme (length m) (length z) (length o)) (joinBlocks (zeroTokens (garblingOf c seed scheme))) z
-  pub ones-left : o′ ≡ written (garbleVerdict c seed scheme (length m) (length z) (length o)) (joinBlocks (inputOnes (garblingOf c seed scheme))) o
+pub record GarbleIs (c seed : List ℕ) (want : Wanted) (m z o : List ℕ) (r : Answer Made) (m′ z′ o′ : List ℕ) : Type 0 where
+  pub answered : r ≡ answer (garbleVerdict c seed want (length m) (length z) (length o)) (garbleMade c seed want)
+  pub material-left : m′ ≡ written (garbleVerdict c seed want (length m) (length z) (length o)) (material (garblingOf c seed want)) m
+  pub zeros-left : z′ ≡ written (garbleVerdict c seed want (length m) (length z) (length o)) (joinBlocks (zeroTokens (garblingOf c seed want))) z
+  pub ones-left : o′ ≡ written (garbleVerdict c seed want (length m) (length z) (length o)) (joinBlocks (inputOnes (garblingOf c seed want))) o
 
 -- ---- "Encode (circuit, values, the inputs' zero and one lists): 16n bytes"
 

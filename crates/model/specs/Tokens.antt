@@ -3,6 +3,7 @@ use Prim.Native.Nat.{ℕ, _+_, _*_, _/_, _%_}
 use mathlib.Core.List.{List}
 use lib.Bits.{differ}
 use lib.ListN.{getD, set}
+use Rattle.model.specs.declared.Wanted.{Wanted}
 use Rattle.model.specs.Bytes.{tabulate}
 use Rattle.model.specs.Circuit.{Circuit, circuitOf}
 use Rattle.model.specs.Aes.{Block, _⊕_, times, block, aes}
@@ -13,9 +14,9 @@ pub record Garbling : Type 0 where
   pub seed : Block
   pub scheme : ℕ
 
--- the garbling of a circuit's bytes
-abbrev pub garblingOf : List ℕ → List ℕ → ℕ → Garbling
-garblingOf c seed scheme = record { circuit = circuitOf c; seed = seed; scheme = scheme }
+-- the garbling of a circuit's bytes, as it is wanted
+abbrev pub garblingOf : List ℕ → List ℕ → Wanted → Garbling
+garblingOf c seed want = record { circuit = circuitOf c; seed = seed; scheme = want .scheme }
 
 -- "the lowest bit of its last byte"
 unfoldable pub colour : Block → ℕ

@@ -61,6 +61,11 @@ pub struct Sizes {
     pub p: usize,
 }
 
+// What garbling is asked for beside the circuit and the seed (01, Operations): the scheme, by its byte.
+pub struct Wanted {
+    pub scheme: u8,
+}
+
 // The answer of check.
 pub enum Checked {
     Accepted(Sizes),
