@@ -6,6 +6,7 @@ use mathlib.Core.List.{List}
 use lib.ListN.{length, take}
 use lib.Seq.{length-take-le}
 use Rattle.model.specs.declared.Sizes.{Sizes}
+use Rattle.model.specs.declared.Wanted.{Wanted}
 use Rattle.model.specs.declared.Refusal.{Refusal}
 use Rattle.model.specs.declared.Checked.{Checked}
 use Rattle.model.specs.declared.Garbled.{Garbled}
@@ -20,7 +21,7 @@ use Rattle.circuit.proofs.AcceptedLaws as A
 use Rattle.circuit.proofs.AcceptedLaws.{check-accepted, is-n}
 use Rattle.garble.specs.Whole.{WholeStart}
 use Rattle.chain.specs.declared.Chained.{Chained}
-use Rattle.chain.specs.Parts.{EncodeStart, EncodeOn}
+use Rattle.chain.specs.Parts.{EncodeHanded, EncodeOn}
 use Rattle.chain.specs.Chain.{EndedAtGarble, ChainIs}
 use Rattle.chain.proofs.PartLaws.{over-long}
 use Rattle.chain.proofs.HandLaws as H
@@ -33,14 +34,14 @@ lengthOf (made l k) = l
 other : (i x : ℕ) → fine ≡ refused i x → ⊥
 other i x e = absurd (let z : _≡_ {A = ℕ} 0 1 = cc in omega arith)
 
-module _ (c seed : List ℕ) (scheme : ℕ) (f z o : List ℕ) (g : Garbled) (f′ z′ o′ : List ℕ) (answers : GarbleIs c seed scheme f z o (garbledOf g) f′ z′ o′) where
+module _ (c seed : List ℕ) (want : Wanted) (f z o : List ℕ) (g : Garbled) (f′ z′ o′ : List ℕ) (answers : GarbleIs c seed want f z o (garbledOf g) f′ z′ o′) where
   pub garble-refused : (e : Refusal) → g ≡ Garbled.Refused e → (v t w b : List ℕ)
-      → EndedAtGarble c seed scheme v f z o t w b f′ z′ o′ t w b (verdictOf e)
+      → EndedAtGarble c seed want v f z o t w b f′ z′ o′ t w b (verdictOf e)
   garble-refused e h v t w b =
-      let refused-by : GarbleIs c seed scheme f z o (no (verdictOf e)) f′ z′ o′ = rw h at answers in
+      let refused-by : GarbleIs c seed want f z o (no (verdictOf e)) f′ z′ o′ = rw h at answers in
       record {
         garble-is = refused-by;
-        only-19 = H.garble-refused c seed scheme v f z o f′ z′ o′ _ _ refused-by;
+        only-19 = H.garble-refused c seed want v f z o f′ z′ o′ _ _ refused-by;
         tokens-kept = refl;
         wires-kept = refl;
         bits-kept = refl;
@@ -48,29 +49,29 @@ module _ (c seed : List ℕ) (scheme : ℕ) (f z o : List ℕ) (g : Garbled) (f�
 
   -- garble ran
   module _ (l k : ℕ) (h : g ≡ Garbled.Done l k) where
-    done : GarbleIs c seed scheme f z o (yes (made l k)) f′ z′ o′
+    done : GarbleIs c seed want f z o (yes (made l k)) f′ z′ o′
     done = rw h at answers
 
-    was-fine : garbleVerdict c seed scheme (length f) (length z) (length o) ≡ fine
-    was-fine = H.was-fine c seed scheme f z o f′ z′ o′ (made l k) done
+    was-fine : garbleVerdict c seed want (length f) (length z) (length o) ≡ fine
+    was-fine = H.was-fine c seed want f z o f′ z′ o′ (made l k) done
 
-    is-made : made l k ≡ garbleMade c seed scheme
-    is-made = H.garble-made c seed scheme f z o f′ z′ o′ (made l k) done
+    is-made : made l k ≡ garbleMade c seed want
+    is-made = H.garble-made c seed want f z o f′ z′ o′ (made l k) done
 
-    is-length : l ≡ materialLength scheme (outputs c) (charges (circuitOf c .gates))
+    is-length : l ≡ materialLength (want .scheme) (outputs c) (charges (circuitOf c .gates))
     unfolding garbleMade
     is-length = ap lengthOf is-made
 
-    start : WholeStart c seed scheme (sizesOf c) f z o
-    start = H.garbled c seed scheme f z o f′ z′ o′ (made l k) done
+    start : WholeStart c seed want (sizesOf c) f z o
+    start = H.garbled c seed want f z o f′ z′ o′ (made l k) done
 
-    ran : GarbleIs c seed scheme f z o (yes (garbleMade c seed scheme)) f′ z′ o′
+    ran : GarbleIs c seed want f z o (yes (garbleMade c seed want)) f′ z′ o′
     ran = rw is-made at done
 
     pub material-among : l ≤ length f′
     material-among =
         rw (is-length, answers .material-left, was-fine)
-        (omega (arith, start .file-room, over-long (material (garblingOf c seed scheme)) f))
+        (omega (arith, start .file-room, over-long (material (garblingOf c seed want)) f))
 
     pub material-front : l ≡ length (take l f′)
     material-front = sym (length-take-le l f′ material-among)
@@ -79,26 +80,26 @@ module _ (c seed : List ℕ) (scheme : ℕ) (f z o : List ℕ) (g : Garbled) (f�
     module _ (q : Checked) (is-q : checkedOf q ≡ checkAnswer c) where
       -- it cannot refuse what garble accepted
       pub check-refused : (e : Refusal) → q ≡ Checked.Refused e → (v t w b : List ℕ)
-          → EndedAtGarble c seed scheme v f z o t w b f′ z′ o′ t w b (verdictOf e)
-      check-refused e j v t w b = absurd (other _ _ (sym (A.check-refused c q is-q e j ∙ start .accepted)))
+          → EndedAtGarble c seed want v f z o t w b f′ z′ o′ t w b (verdictOf e)
+      check-refused e j v t w b = absurd (other _ _ (sym (A.check-refused c q is-q e j ∙ start .sized .accepted)))
 
       module _ (s : Sizes) (j : q ≡ Checked.Accepted s) where
         known : Accepted c s
         known = check-accepted c q is-q s j
 
-        pub encode-ready : EncodeStart c s z′ o′
+        pub encode-ready : EncodeHanded c s z′ o′
         encode-ready = record {
           sized = known;
           all-zeros =
               rw (is-n c s known, answers .zeros-left, was-fine)
-              (omega (arith, start .wires-room, over-long (joinBlocks (zeroTokens (garblingOf c seed scheme))) z));
+              (omega (arith, start .wires-room, over-long (joinBlocks (zeroTokens (garblingOf c seed want))) z));
           all-ones =
               rw (is-n c s known, answers .ones-left, was-fine)
-              (omega (arith, start .inputs-room, over-long (joinBlocks (inputOnes (garblingOf c seed scheme))) o));
+              (omega (arith, start .inputs-room, over-long (joinBlocks (inputOnes (garblingOf c seed want))) o));
         }
 
         pub chain-done : (v t w b : List ℕ) (r : Chained) (t′ w′ b′ : List ℕ) → EncodeOn c s v (take l f′) z′ o′ t w b r t′ w′ b′
-            → ChainIs c seed scheme v f z o t w b r f′ z′ o′ t′ w′ b′
-        chain-done v t w b r t′ w′ b′ e = ended c seed scheme v f z o t w b f′ z′ o′ t′ w′ b′ ran r (rw (is-length, known .sizes) at e)
+            → ChainIs c seed want v f z o t w b r f′ z′ o′ t′ w′ b′
+        chain-done v t w b r t′ w′ b′ e = ended c seed want v f z o t w b f′ z′ o′ t′ w′ b′ ran r (rw (is-length, known .sizes) at e)
 
 pub ruleset chain-cases = (garble-refused, material-among, material-front, check-refused, encode-ready, chain-done)

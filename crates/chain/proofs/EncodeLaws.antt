@@ -15,10 +15,10 @@ use Rattle.model.specs.Operations.{ranOf, EncodeIs}
 use Rattle.circuit.proofs.AcceptedLaws.{is-n}
 use Rattle.garble.proofs.EncodeIsLaws.{encode-fine}
 use Rattle.chain.specs.declared.Chained.{Chained}
-use Rattle.chain.specs.Parts.{EncodeStart, EvaluateStart, EvaluateOn, EncodeOn}
+use Rattle.chain.specs.Parts.{EncodeHanded, EvaluateHanded, EvaluateOn, EncodeOn}
 use Rattle.chain.proofs.PartLaws.{over-long}
 
-module _ (c : List ℕ) (s : Sizes) (z o : List ℕ) (start : EncodeStart c s z o) where
+module _ (c : List ℕ) (s : Sizes) (z o : List ℕ) (start : EncodeHanded c s z o) where
   pub zeros-front : 16 * s .n ≡ length (take (16 * s .n) z)
   zeros-front = sym (length-take-le _ z (start .all-zeros))
 
@@ -26,7 +26,7 @@ module _ (c : List ℕ) (s : Sizes) (z o : List ℕ) (start : EncodeStart c s z 
   ones-front = sym (length-take-le _ o (start .all-ones))
 
   -- what encode leaves, whatever the lists were
-  pub evaluate-ready : (v zs os t : List ℕ) (q : Ran) (t′ : List ℕ) → EncodeIs c v zs os t (ranOf q) t′ → q ≡ Ran.Done → EvaluateStart c s t′
+  pub evaluate-ready : (v zs os t : List ℕ) (q : Ran) (t′ : List ℕ) → EncodeIs c v zs os t (ranOf q) t′ → q ≡ Ran.Done → EvaluateHanded c s t′
   evaluate-ready v zs os t q t′ answers h =
       let ran : EncodeIs c v zs os t fine t′ = rw h at answers in
       let room = encode-fine c v zs os t (sym (ran .answered)) .room in

@@ -17,10 +17,10 @@ use Rattle.circuit.proofs.AcceptedLaws.{is-n, is-q}
 use Rattle.evaluate.specs.Outputs.{OutputsStart}
 use Rattle.evaluate.proofs.RestLaws.{evaluate-verdict, rest-holds}
 use Rattle.chain.specs.declared.Chained.{Chained}
-use Rattle.chain.specs.Parts.{EvaluateStart, DecodeOn, EvaluateOn}
+use Rattle.chain.specs.Parts.{EvaluateHanded, DecodeOn, EvaluateOn}
 use Rattle.chain.proofs.PartLaws.{over-long}
 
-module _ (c : List ℕ) (s : Sizes) (t : List ℕ) (start : EvaluateStart c s t) where
+module _ (c : List ℕ) (s : Sizes) (t : List ℕ) (start : EvaluateHanded c s t) where
   pub tokens-front : 16 * s .n ≡ length (take (16 * s .n) t)
   tokens-front = sym (length-take-le _ t (start .all-inputs))
 

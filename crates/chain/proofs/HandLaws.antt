@@ -6,6 +6,7 @@ use mathlib.Core.List.{List, map}
 use mathlib.Core.Bool.{Bool, true, false}
 use lib.Dec.{ltb}
 use lib.ListN.{length, take, length-map}
+use Rattle.model.specs.declared.Wanted.{Wanted}
 use Rattle.model.specs.Bytes.{over}
 use Rattle.model.specs.Circuit.{charges, circuitOf, inputs, outputs}
 use Rattle.model.specs.Tokens.{garblingOf}
@@ -45,113 +46,113 @@ then-only fine w i x f g e = g e
 then-only (refused j y) w i x f g e = f e
 
 -- ---- garble refused
-pub garble-refused : (c seed : List ℕ) (scheme : ℕ) (v f z o f′ z′ o′ : List ℕ) (i x : ℕ)
-    → GarbleIs c seed scheme f z o (no (refused i x)) f′ z′ o′ → Allowed c seed scheme v → IsRoom (refused i x)
-garble-refused c seed scheme v f z o f′ z′ o′ i x answers permitted =
-    let d = no-turned (garbleVerdict c seed scheme (length f) (length z) (length o)) (refused i x) (garbleMade c seed scheme) (answers .answered) in
+pub garble-refused : (c seed : List ℕ) (want : Wanted) (v f z o f′ z′ o′ : List ℕ) (i x : ℕ)
+    → GarbleIs c seed want f z o (no (refused i x)) f′ z′ o′ → Allowed c seed want v → IsRoom (refused i x)
+garble-refused c seed want v f z o f′ z′ o′ i x answers permitted =
+    let d = no-turned (garbleVerdict c seed want (length f) (length z) (length o)) (refused i x) (garbleMade c seed want) (answers .answered) in
     then-only _ _ i x (then-only _ _ i x (room-only _ _ i x) (room-only _ _ i x)) (room-only _ _ i x)
-    (d .is-w ∙ sym (d .is-v) ∙ only-room c seed scheme v permitted .garble-room (length f) (length z) (length o))
+    (d .is-w ∙ sym (d .is-v) ∙ only-room c seed want v permitted .garble-room (length f) (length z) (length o))
 
 -- ---- garble ran
-module _ (c seed : List ℕ) (scheme : ℕ) (f z o f′ z′ o′ : List ℕ) (made : Made) (ran : GarbleIs c seed scheme f z o (yes made) f′ z′ o′) where
-  pub was-fine : garbleVerdict c seed scheme (length f) (length z) (length o) ≡ fine
-  was-fine = yes-given _ made (garbleMade c seed scheme) (ran .answered) .is-fine
+module _ (c seed : List ℕ) (want : Wanted) (f z o f′ z′ o′ : List ℕ) (made : Made) (ran : GarbleIs c seed want f z o (yes made) f′ z′ o′) where
+  pub was-fine : garbleVerdict c seed want (length f) (length z) (length o) ≡ fine
+  was-fine = yes-given _ made (garbleMade c seed want) (ran .answered) .is-fine
 
-  pub garbled : WholeStart c seed scheme (sizesOf c) f z o
-  garbled = garble-fine c seed scheme f z o was-fine
+  pub garbled : WholeStart c seed want (sizesOf c) f z o
+  garbled = garble-fine c seed want f z o was-fine
 
-  pub garble-made : made ≡ garbleMade c seed scheme
-  garble-made = yes-given (garbleVerdict c seed scheme (length f) (length z) (length o)) made (garbleMade c seed scheme) (ran .answered) .is-result
+  pub garble-made : made ≡ garbleMade c seed want
+  garble-made = yes-given (garbleVerdict c seed want (length f) (length z) (length o)) made (garbleMade c seed want) (ran .answered) .is-result
 
   -- the bytes of the material that garble wrote
-  pub file-is : (v : List ℕ) → take (materialLength scheme (outputs c) (charges (circuitOf c .gates))) f′ ≡ chainMaterial c seed scheme v
+  pub file-is : (v : List ℕ) → take (materialLength (want .scheme) (outputs c) (charges (circuitOf c .gates))) f′ ≡ chainMaterial c seed want v
   unfolding chainMaterial
   file-is v =
-      let γ = garblingOf c seed scheme in
+      let γ = garblingOf c seed want in
       let long = material-length γ in
       rw (ran .material-left, was-fine) (whole-front (material γ) f _ (rw (outputs-many c) at long))
 
-  pub zeros-are : (v : List ℕ) → z′ ≡ over (chainZeros c seed scheme v) z
+  pub zeros-are : (v : List ℕ) → z′ ≡ over (chainZeros c seed want v) z
   unfolding chainZeros
   zeros-are v = ran .zeros-left ∙ rw was-fine
 
-  pub ones-are : (v : List ℕ) → o′ ≡ over (chainOnes c seed scheme v) o
+  pub ones-are : (v : List ℕ) → o′ ≡ over (chainOnes c seed want v) o
   unfolding chainOnes
   ones-are v = ran .ones-left ∙ rw was-fine
 
   -- the two lists that encode gets
-  module _ (v : List ℕ) (permitted : Allowed c seed scheme v) where
-    zeros-handed : take (16 * inputs c) z′ ≡ take (16 * inputs c) (chainZeros c seed scheme v)
-    zeros-handed = rw (zeros-are v) (front-part (chainZeros c seed scheme v) z (16 * inputs c) (omega (arith, zeros-long c seed scheme v permitted)))
+  module _ (v : List ℕ) (permitted : Allowed c seed want v) where
+    zeros-handed : take (16 * inputs c) z′ ≡ take (16 * inputs c) (chainZeros c seed want v)
+    zeros-handed = rw (zeros-are v) (front-part (chainZeros c seed want v) z (16 * inputs c) (omega (arith, zeros-long c seed want v permitted)))
 
-    ones-handed : take (16 * inputs c) o′ ≡ chainOnes c seed scheme v
-    ones-handed = rw (ones-are v) (whole-front _ o _ (ones-long c seed scheme v permitted))
+    ones-handed : take (16 * inputs c) o′ ≡ chainOnes c seed want v
+    ones-handed = rw (ones-are v) (whole-front _ o _ (ones-long c seed want v permitted))
 
     pub encode-refused : (t t′ : List ℕ) (i x : ℕ) → EncodeIs c v (take (16 * inputs c) z′) (take (16 * inputs c) o′) t (refused i x) t′ → IsRoom (refused i x)
     encode-refused t t′ i x answers =
-        room-only _ _ i x ((rw (zeros-handed, ones-handed) at (answers .answered)) ∙ only-room c seed scheme v permitted .encode-room (length t))
+        room-only _ _ i x ((rw (zeros-handed, ones-handed) at (answers .answered)) ∙ only-room c seed want v permitted .encode-room (length t))
 
   -- ---- encode ran
   module _ (v t t′ : List ℕ) (encoded : EncodeIs c v (take (16 * inputs c) z′) (take (16 * inputs c) o′) t fine t′) where
     encode-start : EncodeStart (inputs c) v (take (16 * inputs c) z′) (take (16 * inputs c) o′) t
     encode-start = encode-fine c v _ _ t (sym (encoded .answered))
 
-    pub allowed : Allowed c seed scheme v
+    pub allowed : Allowed c seed want v
     allowed = record {
-      accepted = garbled .accepted;
+      accepted = garbled .sized .accepted;
       known = garbled .known;
       seed-bytes = garbled .seed-length;
       one-each = encode-start .values;
       bits = encode-start .bits;
     }
 
-    tokens-encoded : t′ ≡ over (chainInputs c seed scheme v) t
+    tokens-encoded : t′ ≡ over (chainInputs c seed want v) t
     unfolding chainInputs
     tokens-encoded = encoded .left ∙ rw (← encoded .answered, zeros-handed v allowed, ones-handed v allowed)
 
-    tokens-handed : take (16 * inputs c) t′ ≡ chainInputs c seed scheme v
-    tokens-handed = rw tokens-encoded (whole-front _ t _ (inputs-long c seed scheme v allowed))
+    tokens-handed : take (16 * inputs c) t′ ≡ chainInputs c seed want v
+    tokens-handed = rw tokens-encoded (whole-front _ t _ (inputs-long c seed want v allowed))
 
     abbrev file : List ℕ
-    file = take (materialLength scheme (outputs c) (charges (circuitOf c .gates))) f′
+    file = take (materialLength (want .scheme) (outputs c) (charges (circuitOf c .gates))) f′
 
     pub evaluate-refused : (w w′ : List ℕ) (i x : ℕ) → EvaluateIs c (take (16 * inputs c) t′) file w (no (refused i x)) w′ → IsRoom (refused i x)
     evaluate-refused w w′ i x answers =
         let e = rw (tokens-handed, file-is v) at (answers .answered) in
-        let d = no-turned (evaluateVerdict c (chainInputs c seed scheme v) (chainMaterial c seed scheme v) (length w)) (refused i x) _ e in
-        room-only _ _ i x (d .is-w ∙ sym (d .is-v) ∙ only-room c seed scheme v allowed .evaluate-room (length w))
+        let d = no-turned (evaluateVerdict c (chainInputs c seed want v) (chainMaterial c seed want v) (length w)) (refused i x) _ e in
+        room-only _ _ i x (d .is-w ∙ sym (d .is-v) ∙ only-room c seed want v allowed .evaluate-room (length w))
 
     -- ---- evaluate ran
     module _ (w w′ : List ℕ) (evaluated : EvaluateIs c (take (16 * inputs c) t′) file w (yes (evaluateCallsOf c (take (16 * inputs c) t′) file)) w′) where
       evaluate-was-fine : evaluateVerdict c (take (16 * inputs c) t′) file (length w) ≡ fine
       evaluate-was-fine = yes-given _ (evaluateCallsOf c (take (16 * inputs c) t′) file) (evaluateCallsOf c (take (16 * inputs c) t′) file) (evaluated .answered) .is-fine
 
-      pub wires-are : w′ ≡ over (chainTokens c seed scheme v) w
+      pub wires-are : w′ ≡ over (chainTokens c seed want v) w
       unfolding chainTokens
       wires-are = evaluated .left ∙ rw (evaluate-was-fine, tokens-handed, file-is v)
 
-      outputs-handed : outputTokens (circuitOf c) w′ ≡ outputTokens (circuitOf c) (chainTokens c seed scheme v)
+      outputs-handed : outputTokens (circuitOf c) w′ ≡ outputTokens (circuitOf c) (chainTokens c seed want v)
       unfolding outputTokens
       outputs-handed =
           rw wires-are
           (ap joinBlocks
-          (map-within _ _ (accepted-circuit c (garbled .accepted) .outputs-within)
-          (λ k l h. token-over (chainTokens c seed scheme v) w k l (omega (arith, inputs-same c, gates-many c, tokens-long c seed scheme v allowed)))))
+          (map-within _ _ (accepted-circuit c (garbled .sized .accepted) .outputs-within)
+          (λ k l h. token-over (chainTokens c seed want v) w k l (omega (arith, inputs-same c, gates-many c, tokens-long c seed want v allowed)))))
 
       pub decode-refused : (b b′ : List ℕ) (i x : ℕ)
           → DecodeIs c (outputTokens (circuitOf c) w′) file b (refused i x) b′ → IsRoom (refused i x)
       decode-refused b b′ i x answers =
           let e = rw (outputs-handed, file-is v) at (answers .answered) in
-          room-only _ _ i x (e ∙ only-room c seed scheme v allowed .decode-room (length b))
+          room-only _ _ i x (e ∙ only-room c seed want v allowed .decode-room (length b))
 
       -- ---- decode ran
       module _ (b b′ : List ℕ) (decoded : DecodeIs c (outputTokens (circuitOf c) w′) file b fine b′) where
-        bits-are : b′ ≡ over (chainBits c seed scheme v) b
+        bits-are : b′ ≡ over (chainBits c seed want v) b
         unfolding chainBits
         bits-are = decoded .left ∙ rw (← decoded .answered, outputs-handed, file-is v)
 
-        bits-long : length (chainBits c seed scheme v) ≡ outputs c
-        bits-long = rw (demand-3 c seed scheme v allowed .decoded) (length-map (circuitOf c .outputs) (carries c v) ∙ outputs-many c)
+        bits-long : length (chainBits c seed want v) ≡ outputs c
+        bits-long = rw (demand-3 c seed want v allowed .decoded) (length-map (circuitOf c .outputs) (carries c v) ∙ outputs-many c)
 
         pub bits-handed : take (outputs c) b′ ≡ map (carries c v) (circuitOf c .outputs)
-        bits-handed = rw bits-are (whole-front _ b _ bits-long) ∙ demand-3 c seed scheme v allowed .decoded
+        bits-handed = rw bits-are (whole-front _ b _ bits-long) ∙ demand-3 c seed want v allowed .decoded

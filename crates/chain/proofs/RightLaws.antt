@@ -3,6 +3,7 @@ use Prim.Native.Nat.{ℕ, _+_, _≤_}
 use native.Mathlib.Omega.{arith}
 use mathlib.Core.Path.{_≡_}
 use mathlib.Core.List.{List}
+use Rattle.model.specs.declared.Wanted.{Wanted}
 use Rattle.model.specs.Circuit.{inputs, gates}
 use Rattle.model.specs.Tokens.{distance}
 use Rattle.model.specs.Evaluation.{tokenAt}
@@ -16,45 +17,45 @@ use Rattle.chain.specs.Chain.{WiresRight, BitsRight, file, GarbleRan, En
 use Rattle.chain.proofs.PartLaws.{token-over}
 use Rattle.chain.proofs.HandLaws.{encode-refused, evaluate-refused, decode-refused, allowed, zeros-are, wires-are, bits-handed}
 
-module _ (c seed : List ℕ) (scheme : ℕ) (v f z o t w b f′ z′ o′ t′ w′ b′ : List ℕ)
-    (garbled : GarbleRan c seed scheme v f z o t w b f′ z′ o′ t′ w′ b′)
-    (encoded : EncodeAnswers c seed scheme v f z o t w b f′ z′ o′ t′ w′ b′ fine)
-    (evaluated : EvaluateRan c seed scheme v f z o t w b f′ z′ o′ t′ w′ b′) where
-  distance-is : (k : ℕ) → 1 ≤ k → k ≤ inputs c + gates c → distance (tokenAt w′ k) (tokenAt z′ k) ≡ distanceAt c seed scheme v k
+module _ (c seed : List ℕ) (want : Wanted) (v f z o t w b f′ z′ o′ t′ w′ b′ : List ℕ)
+    (garbled : GarbleRan c seed want v f z o t w b f′ z′ o′ t′ w′ b′)
+    (encoded : EncodeAnswers c seed want v f z o t w b f′ z′ o′ t′ w′ b′ fine)
+    (evaluated : EvaluateRan c seed want v f z o t w b f′ z′ o′ t′ w′ b′) where
+  distance-is : (k : ℕ) → 1 ≤ k → k ≤ inputs c + gates c → distance (tokenAt w′ k) (tokenAt z′ k) ≡ distanceAt c seed want v k
   unfolding distanceAt
   distance-is k l h =
-      let a = allowed c seed scheme f z o f′ z′ o′ (garbleMade c seed scheme) garbled v t t′ encoded in
+      let a = allowed c seed want f z o f′ z′ o′ (garbleMade c seed want) garbled v t t′ encoded in
       rw (
-        wires-are c seed scheme f z o f′ z′ o′ (garbleMade c seed scheme) garbled v t t′ encoded w w′ evaluated,
-        zeros-are c seed scheme f z o f′ z′ o′ (garbleMade c seed scheme) garbled v,
-        token-over (chainTokens c seed scheme v) w k l (omega (arith, tokens-long c seed scheme v a)),
-        token-over (chainZeros c seed scheme v) z k l (omega (arith, zeros-long c seed scheme v a)),
+        wires-are c seed want f z o f′ z′ o′ (garbleMade c seed want) garbled v t t′ encoded w w′ evaluated,
+        zeros-are c seed want f z o f′ z′ o′ (garbleMade c seed want) garbled v,
+        token-over (chainTokens c seed want v) w k l (omega (arith, tokens-long c seed want v a)),
+        token-over (chainZeros c seed want v) z k l (omega (arith, zeros-long c seed want v a)),
       )
 
-  pub wires-right : WiresRight c seed scheme v z′ w′
+  pub wires-right : WiresRight c seed want v z′ w′
   wires-right =
-      let a = allowed c seed scheme f z o f′ z′ o′ (garbleMade c seed scheme) garbled v t t′ encoded in
+      let a = allowed c seed want f z o f′ z′ o′ (garbleMade c seed want) garbled v t t′ encoded in
       record {
         allowed = a;
-        at-zero = λ k l h. rw (distance-is k l h) (demand-3 c seed scheme v a .at-zero k l h);
-        at-one = λ k l h. rw (distance-is k l h) (demand-3 c seed scheme v a .at-one k l h);
+        at-zero = λ k l h. rw (distance-is k l h) (demand-3 c seed want v a .at-zero k l h);
+        at-one = λ k l h. rw (distance-is k l h) (demand-3 c seed want v a .at-one k l h);
       }
 
-  pub bits-right : DecodeAnswers c seed scheme v f z o t w b f′ z′ o′ t′ w′ b′ fine → BitsRight c seed scheme v b′
+  pub bits-right : DecodeAnswers c seed want v f z o t w b f′ z′ o′ t′ w′ b′ fine → BitsRight c seed want v b′
   bits-right decoded = record {
-    decoded = bits-handed c seed scheme f z o f′ z′ o′ (garbleMade c seed scheme) garbled v t t′ encoded w w′ evaluated b b′ decoded;
+    decoded = bits-handed c seed want f z o f′ z′ o′ (garbleMade c seed want) garbled v t t′ encoded w w′ evaluated b b′ decoded;
   }
 
 -- ---- where the chain ended, from what the calls after garble did
-module _ (c seed : List ℕ) (scheme : ℕ) (v f z o t w b f′ z′ o′ t′ w′ b′ : List ℕ) (ran : GarbleRan c seed scheme v f z o t w b f′ z′ o′ t′ w′ b′) where
-  pub ended : (r : Chained) → EncodeOn c (sizesOf c) v (file c seed scheme v f z o t w b f′ z′ o′ t′ w′ b′) z′ o′ t w b r t′ w′ b′
-      → ChainIs c seed scheme v f z o t w b r f′ z′ o′ t′ w′ b′
+module _ (c seed : List ℕ) (want : Wanted) (v f z o t w b f′ z′ o′ t′ w′ b′ : List ℕ) (ran : GarbleRan c seed want v f z o t w b f′ z′ o′ t′ w′ b′) where
+  pub ended : (r : Chained) → EncodeOn c (sizesOf c) v (file c seed want v f z o t w b f′ z′ o′ t′ w′ b′) z′ o′ t w b r t′ w′ b′
+      → ChainIs c seed want v f z o t w b r f′ z′ o′ t′ w′ b′
   unfolding sizesOf
   ended (Chained.Garble x) d = absurd d
   ended (Chained.Encode x) d = record {
     garble-ran = ran;
     encode-is = d .0;
-    only-19 = λ a. encode-refused c seed scheme f z o f′ z′ o′ (garbleMade c seed scheme) ran v a t t′ _ _ (d .0);
+    only-19 = λ a. encode-refused c seed want f z o f′ z′ o′ (garbleMade c seed want) ran v a t t′ _ _ (d .0);
     wires-kept = d .1;
     bits-kept = d .2;
   }
@@ -62,7 +63,7 @@ module _ (c seed : List ℕ) (scheme : ℕ) (v f z o t w b f′ z′ o′ t′ w
     garble-ran = ran;
     encode-ran = d .encode-is;
     evaluate-is = d .evaluate-on .0;
-    only-19 = evaluate-refused c seed scheme f z o f′ z′ o′ (garbleMade c seed scheme) ran v t t′ (d .encode-is) w w′ _ _ (d .evaluate-on .0);
+    only-19 = evaluate-refused c seed want f z o f′ z′ o′ (garbleMade c seed want) ran v t t′ (d .encode-is) w w′ _ _ (d .evaluate-on .0);
     bits-kept = d .evaluate-on .1;
   }
   ended (Chained.Decode x) d =
@@ -72,8 +73,8 @@ module _ (c seed : List ℕ) (scheme : ℕ) (v f z o t w b f′ z′ o′ t′ w
         encode-ran = d .encode-is;
         evaluate-ran = e .evaluate-is;
         decode-is = e .decode-is;
-        only-19 = decode-refused c seed scheme f z o f′ z′ o′ (garbleMade c seed scheme) ran v t t′ (d .encode-is) w w′ (e .evaluate-is) b b′ _ _ (e .decode-is);
-        wires-right = wires-right c seed scheme v f z o t w b f′ z′ o′ t′ w′ b′ ran (d .encode-is) (e .evaluate-is);
+        only-19 = decode-refused c seed want f z o f′ z′ o′ (garbleMade c seed want) ran v t t′ (d .encode-is) w w′ (e .evaluate-is) b b′ _ _ (e .decode-is);
+        wires-right = wires-right c seed want v f z o t w b f′ z′ o′ t′ w′ b′ ran (d .encode-is) (e .evaluate-is);
       }
   ended Chained.Done d =
       let e = d .evaluate-on in
@@ -82,6 +83,6 @@ module _ (c seed : List ℕ) (scheme : ℕ) (v f z o t w b f′ z′ o′ t′ w
         encode-ran = d .encode-is;
         evaluate-ran = e .evaluate-is;
         decode-ran = e .decode-is;
-        wires-right = wires-right c seed scheme v f z o t w b f′ z′ o′ t′ w′ b′ ran (d .encode-is) (e .evaluate-is);
-        bits-right = bits-right c seed scheme v f z o t w b f′ z′ o′ t′ w′ b′ ran (d .encode-is) (e .evaluate-is) (e .decode-is);
+        wires-right = wires-right c seed want v f z o t w b f′ z′ o′ t′ w′ b′ ran (d .encode-is) (e .evaluate-is);
+        bits-right = bits-right c seed want v f z o t w b f′ z′ o′ t′ w′ b′ ran (d .encode-is) (e .evaluate-is) (e .decode-is);
       }

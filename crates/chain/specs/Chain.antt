@@ -14,6 +14,7 @@ use mathlib.Core.Path.{_≡_}
 use mathlib.Core.Logic.{_↔_}
 use mathlib.Core.List.{List, map}
 use lib.ListN.{take}
+use Rattle.model.specs.declared.Wanted.{Wanted}
 use Rattle.model.specs.Circuit.{charges, circuitOf, inputs, outputs, gates}
 use Rattle.model.specs.Aes.{block}
 use Rattle.model.specs.Tokens.{garblingOf, offset, distance}
@@ -25,15 +26,15 @@ use Rattle.model.specs.Demand3.{Allowed, carries}
 use Rattle.chain.specs.declared.Chained.{Chained}
 
 -- on every wire k, the distance between the token in w′ and the zero token in z′
-pub record WiresRight (c seed : List ℕ) (scheme : ℕ) (v z′ w′ : List ℕ) : Type 0 where
-  pub allowed : Allowed c seed scheme v
+pub record WiresRight (c seed : List ℕ) (want : Wanted) (v z′ w′ : List ℕ) : Type 0 where
+  pub allowed : Allowed c seed want v
   pub at-zero : (k : ℕ) → 1 ≤ k → k ≤ inputs c + gates c
       → (distance (tokenAt w′ k) (tokenAt z′ k) ≡ block 0) ↔ (carries c v k ≡ 0)
   pub at-one : (k : ℕ) → 1 ≤ k → k ≤ inputs c + gates c
-      → (distance (tokenAt w′ k) (tokenAt z′ k) ≡ offset (garblingOf c seed scheme)) ↔ (carries c v k ≡ 1)
+      → (distance (tokenAt w′ k) (tokenAt z′ k) ≡ offset (garblingOf c seed want)) ↔ (carries c v k ≡ 1)
 
 -- the decoded bytes
-pub record BitsRight (c seed : List ℕ) (scheme : ℕ) (v b′ : List ℕ) : Type 0 where
+pub record BitsRight (c seed : List ℕ) (want : Wanted) (v b′ : List ℕ) : Type 0 where
   pub decoded : take (outputs c) b′ ≡ map (carries c v) (circuitOf c .outputs)
 
 -- refusal 19, a buffer too short: "With the arguments that demand 3 names, only 19 can refuse one of the four"
@@ -43,14 +44,14 @@ pub record IsRoom (e : Verdict) : Type 0 where
 
 -- ---- what each of the four calls answered and left: a call gets the front of what the calls before it wrote
 
-module _ (c seed : List ℕ) (scheme : ℕ) (v f z o t w b f′ z′ o′ t′ w′ b′ : List ℕ) where
+module _ (c seed : List ℕ) (want : Wanted) (v f z o t w b f′ z′ o′ t′ w′ b′ : List ℕ) where
   -- "evaluate gets .. garble's material": the bytes of it that garble wrote
   abbrev pub file : List ℕ
-  file = take (materialLength scheme (outputs c) (charges (circuitOf c .gates))) f′
+  file = take (materialLength (want .scheme) (outputs c) (charges (circuitOf c .gates))) f′
 
   -- garble ran
   abbrev pub GarbleRan : Type 0
-  GarbleRan = GarbleIs c seed scheme f z o (yes (garbleMade c seed scheme)) f′ z′ o′
+  GarbleRan = GarbleIs c seed want f z o (yes (garbleMade c seed want)) f′ z′ o′
 
   -- "Encode gets the first 16n bytes of the zero tokens and the one tokens, as garble wrote them"; it answered r
   abbrev pub EncodeAnswers : Verdict → Type 0
@@ -70,8 +71,8 @@ module _ (c seed : List ℕ) (scheme : ℕ) (v f z o t w b f′ z′ o′ t′ w
   -- ---- where the chain ended
 
   pub record EndedAtGarble (e : Verdict) : Type 0 where
-    pub garble-is : GarbleIs c seed scheme f z o (no e) f′ z′ o′
-    pub only-19 : Allowed c seed scheme v → IsRoom e
+    pub garble-is : GarbleIs c seed want f z o (no e) f′ z′ o′
+    pub only-19 : Allowed c seed want v → IsRoom e
     pub tokens-kept : t′ ≡ t
     pub wires-kept : w′ ≡ w
     pub bits-kept : b′ ≡ b
@@ -79,7 +80,7 @@ module _ (c seed : List ℕ) (scheme : ℕ) (v f z o t w b f′ z′ o′ t′ w
   pub record EndedAtEncode (e : Verdict) : Type 0 where
     pub garble-ran : GarbleRan
     pub encode-is : EncodeAnswers e
-    pub only-19 : Allowed c seed scheme v → IsRoom e
+    pub only-19 : Allowed c seed want v → IsRoom e
     pub wires-kept : w′ ≡ w
     pub bits-kept : b′ ≡ b
 
@@ -97,7 +98,7 @@ module _ (c seed : List ℕ) (scheme : ℕ) (v f z o t w b f′ z′ o′ t′ w
     pub evaluate-ran : EvaluateRan
     pub decode-is : DecodeAnswers e
     pub only-19 : IsRoom e
-    pub wires-right : WiresRight c seed scheme v z′ w′
+    pub wires-right : WiresRight c seed want v z′ w′
 
   -- all four ran: every wire and every bit is right
   pub record Ended : Type 0 where
@@ -105,13 +106,13 @@ module _ (c seed : List ℕ) (scheme : ℕ) (v f z o t w b f′ z′ o′ t′ w
     pub encode-ran : EncodeAnswers fine
     pub evaluate-ran : EvaluateRan
     pub decode-ran : DecodeAnswers fine
-    pub wires-right : WiresRight c seed scheme v z′ w′
-    pub bits-right : BitsRight c seed scheme v b′
+    pub wires-right : WiresRight c seed want v z′ w′
+    pub bits-right : BitsRight c seed want v b′
 
 -- the chain's answer r, for every argument
-abbrev pub ChainIs : (c seed : List ℕ) (scheme : ℕ) (v f z o t w b : List ℕ) → Chained → (f′ z′ o′ t′ w′ b′ : List ℕ) → Type 0
-ChainIs c seed scheme v f z o t w b (Chained.Garble e) f′ z′ o′ t′ w′ b′ = EndedAtGarble c seed scheme v f z o t w b f′ z′ o′ t′ w′ b′ (verdictOf e)
-ChainIs c seed scheme v f z o t w b (Chained.Encode e) f′ z′ o′ t′ w′ b′ = EndedAtEncode c seed scheme v f z o t w b f′ z′ o′ t′ w′ b′ (verdictOf e)
-ChainIs c seed scheme v f z o t w b (Chained.Evaluate e) f′ z′ o′ t′ w′ b′ = EndedAtEvaluate c seed scheme v f z o t w b f′ z′ o′ t′ w′ b′ (verdictOf e)
-ChainIs c seed scheme v f z o t w b (Chained.Decode e) f′ z′ o′ t′ w′ b′ = EndedAtDecode c seed scheme v f z o t w b f′ z′ o′ t′ w′ b′ (verdictOf e)
-ChainIs c seed scheme v f z o t w b Chained.Done f′ z′ o′ t′ w′ b′ = Ended c seed scheme v f z o t w b f′ z′ o′ t′ w′ b′
+abbrev pub ChainIs : (c seed : List ℕ) (want : Wanted) (v f z o t w b : List ℕ) → Chained → (f′ z′ o′ t′ w′ b′ : List ℕ) → Type 0
+ChainIs c seed want v f z o t w b (Chained.Garble e) f′ z′ o′ t′ w′ b′ = EndedAtGarble c seed want v f z o t w b f′ z′ o′ t′ w′ b′ (verdictOf e)
+ChainIs c seed want v f z o t w b (Chained.Encode e) f′ z′ o′ t′ w′ b′ = EndedAtEncode c seed want v f z o t w b f′ z′ o′ t′ w′ b′ (verdictOf e)
+ChainIs c seed want v f z o t w b (Chained.Evaluate e) f′ z′ o′ t′ w′ b′ = EndedAtEvaluate c seed want v f z o t w b f′ z′ o′ t′ w′ b′ (verdictOf e)
+ChainIs c seed want v f z o t w b (Chained.Decode e) f′ z′ o′ t′ w′ b′ = EndedAtDecode c seed want v f z o t w b f′ z′ o′ t′ w′ b′ (verdictOf e)
+ChainIs c seed want v f z o t w b Chained.Done f′ z′ o′ t′ w′ b′ = Ended c seed want v f z o t w b f′ z′ o′ t′ w′ b′

@@ -22,7 +22,7 @@ DecodeOn c f w b (Chained.Evaluate e) b′ = ⊥
 
 -- ---- evaluate: "encode's bytes and garble's material"
 
-pub record EvaluateStart (c : List ℕ) (s : Sizes) (t : List ℕ) : Type 0 where
+pub record EvaluateHanded (c : List ℕ) (s : Sizes) (t : List ℕ) : Type 0 where
   pub sized : Accepted c s
   pub all-inputs : 16 * s .n ≤ length t
 
@@ -40,7 +40,7 @@ EvaluateOn c s f t w b (Chained.Encode e) w′ b′ = ⊥
 
 -- ---- encode: "the first 16n bytes of the zero tokens and the one tokens"
 
-pub record EncodeStart (c : List ℕ) (s : Sizes) (z o : List ℕ) : Type 0 where
+pub record EncodeHanded (c : List ℕ) (s : Sizes) (z o : List ℕ) : Type 0 where
   pub sized : Accepted c s
   pub all-zeros : 16 * s .n ≤ length z
   pub all-ones : 16 * s .n ≤ length o

@@ -1,7 +1,7 @@
 // The chain of demand 3 (01, Operations): garble, encode, evaluate and decode in turn, on one circuit.
 ghost use Rattle.evaluate.specs.Outputs.{OutputsStart};
 ghost use Rattle.chain.specs.Chain.{ChainIs};
-ghost use Rattle.chain.specs.Parts.{EncodeStart, EncodeOn, EvaluateStart, EvaluateOn, DecodeOn};
+ghost use Rattle.chain.specs.Parts.{EncodeHanded, EncodeOn, EvaluateHanded, EvaluateOn, DecodeOn};
 use circuit::check;
 use evaluate::decode;
 use evaluate::evaluate;
@@ -14,6 +14,7 @@ use model::Garbled;
 use model::Ran;
 use model::Refusal;
 use model::Sizes;
+use model::Wanted;
 
 // Where the chain ended: all four ran, or one of them refused.
 pub enum Chained {
@@ -44,7 +45,7 @@ fn evaluate_on(
     wires: &mut [u8],
     bits: &mut [u8],
 ) -> Chained
-    requires { ⌜ EvaluateStart (now circuit) z (now tokens) ⌝ }
+    requires { ⌜ EvaluateHanded (now circuit) z (now tokens) ⌝ }
     ensures { λ r. ⌜ EvaluateOn (now (circuit .entry)) z (now (material .entry)) (now (tokens .entry)) (now (wires .entry)) (now (bits .entry)) r (now (wires .exit)) (now (bits .exit)) ⌝ }
 {
     let list = 16 * z.n;
@@ -66,7 +67,7 @@ fn encode_on(
     wires: &mut [u8],
     bits: &mut [u8],
 ) -> Chained
-    requires { ⌜ EncodeStart (now circuit) z (now zeros) (now ones) ⌝ }
+    requires { ⌜ EncodeHanded (now circuit) z (now zeros) (now ones) ⌝ }
     ensures { λ r. ⌜ EncodeOn (now (circuit .entry)) z (now (values .entry)) (now (material .entry)) (now (zeros .entry)) (now (ones .entry)) (now (tokens .entry)) (now (wires .entry)) (now (bits .entry)) r (now (tokens .exit)) (now (wires .exit)) (now (bits .exit)) ⌝ }
 {
     let list = 16 * z.n;
@@ -80,7 +81,7 @@ fn encode_on(
 pub fn chain(
     circuit: &[u8],
     seed: &[u8],
-    scheme: u8,
+    wanted: Wanted,
     values: &[u8],
     material: &mut [u8],
     zeros: &mut [u8],
@@ -89,9 +90,9 @@ pub fn chain(
     wires: &mut [u8],
     bits: &mut [u8],
 ) -> Chained
-    ensures { λ r. ⌜ ChainIs (now (circuit .entry)) (now (seed .entry)) scheme (now (values .entry)) (now (material .entry)) (now (zeros .entry)) (now (ones .entry)) (now (tokens .entry)) (now (wires .entry)) (now (bits .entry)) r (now (material .exit)) (now (zeros .exit)) (now (ones .exit)) (now (tokens .exit)) (now (wires .exit)) (now (bits .exit)) ⌝ }
+    ensures { λ r. ⌜ ChainIs (now (circuit .entry)) (now (seed .entry)) wanted (now (values .entry)) (now (material .entry)) (now (zeros .entry)) (now (ones .entry)) (now (tokens .entry)) (now (wires .entry)) (now (bits .entry)) r (now (material .exit)) (now (zeros .exit)) (now (ones .exit)) (now (tokens .exit)) (now (wires .exit)) (now (bits .exit)) ⌝ }
 {
-    match garble(circuit, seed, scheme, material, zeros, ones) {
+    match garble(circuit, seed, wanted, material, zeros, ones) {
         Garbled::Refused(f) => Chained::Garble(f),
         Garbled::Done { length, calls: _ } => match check(circuit) {
             Checked::Refused(f) => Chained::Garble(f),

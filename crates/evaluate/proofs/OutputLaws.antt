@@ -24,7 +24,7 @@ module _ (c : List ℕ) (z : Sizes) (w : List ℕ) (start : OutputsStart c z w) 
   is-m = ap (λ (x : Sizes). x .m) (start .sizes)
 
   pub tokens-first : OutputStart c z 0
-  tokens-first = record { accepted = start .accepted; sizes = start .sizes; more = limits .m-low }
+  tokens-first = record { sized = record { accepted = start .accepted; sizes = start .sizes }; more = limits .m-low }
 
   pub tokens-fit : Fits w64 (16 * z .m)
   tokens-fit = omega (arith, is-m, limits .m-high, limits .sum)

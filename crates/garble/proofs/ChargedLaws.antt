@@ -16,10 +16,12 @@ use Rattle.model.specs.Garbling.{schemeOf}
 use Rattle.model.specs.Calls.{garbleAsks}
 use Rattle.model.proofs.Calls.{garble-asks-four}
 use Rattle.model.proofs.Places.{stored-low, stored-high}
+use Rattle.block.specs.declared.Block as Struct
 use Rattle.scheme.specs.Garbled.{site, GarbledIs}
 use Rattle.scheme.specs.declared.Site.{Site}
 use Rattle.scheme.specs.declared.GarbledGate.{GarbledGate}
-use Rattle.garble.specs.Walk.{RecordRoom, recordBytes, FreshIs, siteAt, ChargedStart, ChargedIs}
+use Rattle.garble.specs.declared.gate.GateIn.{GateIn}
+use Rattle.garble.specs.Walk.{WriterRoom, recordBytes, FreshIs, siteAt, ChargedStart, ChargedIs}
 
 -- ---- fresh_block
 module _ (w : List ℕ) (scheme g : ℕ) (r : Block) where
@@ -69,30 +71,37 @@ module _ (k : ℕ) (h : k ≡ 1 → ⊥) (f : Block) (s : Model.Site) where
       go false = half-rows f s
 
 -- a gate garbled with what `fresh_block` gave is garbled as the site says
-module _ (w : List ℕ) (k g : ℕ) (f : Block) (R : Block) (code : ℕ) (xa xb : Block) (made : GarbledGate) (fresh : FreshIs w k g f)
-    (is : GarbledIs (schemeOf k) (garbleAsks k (refreshed f (siteAt w R g code xa xb))) (refreshed f (siteAt w R g code xa xb)) made) where
-  of-gax : k ≡ 1 → GarbledIs (schemeOf k) (garbleAsks k (siteAt w R g code xa xb)) (siteAt w R g code xa xb) made
+module _ (w : List ℕ) (k : ℕ) (f R : Block) (g : GateIn) (fresh : FreshIs w k (g .own .0) f) (made : GarbledGate)
+    (is : GarbledIs (schemeOf k) (garbleAsks k (refreshed f (siteAt w R g))) (refreshed f (siteAt w R g)) made) where
+  of-gax : k ≡ 1 → GarbledIs (schemeOf k) (garbleAsks k (siteAt w R g)) (siteAt w R g) made
   unfolding refreshed siteAt
   of-gax e = rw (fresh .if-gax e) at is
 
-  of-other : (k ≡ 1 → ⊥) → GarbledIs (schemeOf k) (garbleAsks k (siteAt w R g code xa xb)) (siteAt w R g code xa xb) made
+  of-other : (k ≡ 1 → ⊥) → GarbledIs (schemeOf k) (garbleAsks k (siteAt w R g)) (siteAt w R g) made
   of-other h = record {
-    is-zero = is .is-zero ∙ other-zero k h f (siteAt w R g code xa xb);
-    is-rows = is .is-rows ∙ other-rows k h f (siteAt w R g code xa xb);
-    is-calls = is .is-calls ∙ garble-asks-four k (refreshed f (siteAt w R g code xa xb)) ∙ sym (garble-asks-four k (siteAt w R g code xa xb));
+    is-zero = is .is-zero ∙ other-zero k h f (siteAt w R g);
+    is-rows = is .is-rows ∙ other-rows k h f (siteAt w R g);
+    is-calls = is .is-calls ∙ garble-asks-four k (refreshed f (siteAt w R g)) ∙ sym (garble-asks-four k (siteAt w R g));
   }
 
-  gate-is : GarbledIs (schemeOf k) (garbleAsks k (siteAt w R g code xa xb)) (siteAt w R g code xa xb) made
+  gate-is : GarbledIs (schemeOf k) (garbleAsks k (siteAt w R g)) (siteAt w R g) made
   gate-is = go (eqb k 1) refl
     where
-      go : (b : Bool) → eqb k 1 ≡ b → GarbledIs (schemeOf k) (garbleAsks k (siteAt w R g code xa xb)) (siteAt w R g code xa xb) made
+      go : (b : Bool) → eqb k 1 ≡ b → GarbledIs (schemeOf k) (garbleAsks k (siteAt w R g)) (siteAt w R g) made
       go true e = of-gax (eqb-true k 1 e)
       go false e = of-other (eqb-false k 1 e)
+
+-- ---- make_charged: at the gate g, with the offset r and what `fresh_block` gave
+pub make-done : (w : List ℕ) (k : ℕ) (r f : Struct.Block) (g : GateIn) (made : GarbledGate) → FreshIs w k (g .own .0) (f .bytes)
+    → (let s : Site = record { r = r; fresh = f; g = g .own; code = g .code; xa = g .xa; xb = g .xb } in GarbledIs (schemeOf k) (garbleAsks k (site s)) (site s) made)
+    → GarbledIs (schemeOf k) (garbleAsks k (siteAt w (r .bytes) g)) (siteAt w (r .bytes) g) made
+unfolding site
+make-done w k r f g made fresh is = gate-is w k (f .bytes) (r .bytes) g fresh made (unfold refreshed siteAt in is)
 
 -- ---- garble_charged
 
 module _ (scheme stored code u v x : ℕ) (m : List ℕ) (at : ℕ) (z : List ℕ) (slot : ℕ) (start : ChargedStart scheme stored code u v x m at z slot) where
-  pub charged-record : RecordRoom at stored m
+  pub charged-record : WriterRoom at stored m
   unfolding Model.recordLength
   charged-record = record {
     low = omega (arith, start .is-stored, stored-low scheme);
@@ -100,16 +109,11 @@ module _ (scheme stored code u v x : ℕ) (m : List ℕ) (at : ℕ) (z : List �
     room = rw (start .is-stored) (omega (arith, start .record-room));
   }
 
-  module _ (w : List ℕ) (st : Site) (fresh : FreshIs w scheme (st .g .0) (st .fresh .bytes)) (made : GarbledGate) (is : GarbledIs (schemeOf scheme) (garbleAsks scheme (site st)) (site st) made)
-      (m′ z′ : List ℕ) where
-    pub charged-done : z′ ≡ put z slot (made .zero .bytes) → m′ ≡ put m at (recordBytes (st .g .0) stored made)
-        → ChargedIs scheme (siteAt w (st .r .bytes) (st .g .0) (st .code) (st .xa .bytes) (st .xb .bytes)) m at z slot m′ z′ (made .calls)
-    charged-done is-z is-m =
-        let σ : Model.Site = siteAt w (st .r .bytes) (st .g .0) (st .code) (st .xa .bytes) (st .xb .bytes) in
-        let h : GarbledIs (schemeOf scheme) (garbleAsks scheme σ) σ made =
-        gate-is w scheme (st .g .0) (st .fresh .bytes) (st .r .bytes) (st .code) (st .xa .bytes) (st .xb .bytes) made fresh (unfold site refreshed siteAt in is) in
-        record {
-          zeros-left = rw (h .is-zero) at is-z;
-          material-left = is-m ∙ unfold recordBytes siteAt in (rw (start .is-stored, h .is-rows));
-          calls-made = h .is-calls;
-        }
+  pub charged-done : (w : List ℕ) (R : Block) (g : GateIn) (made : GarbledGate) → GarbledIs (schemeOf scheme) (garbleAsks scheme (siteAt w R g)) (siteAt w R g) made
+      → (m′ z′ : List ℕ) → z′ ≡ put z slot (made .zero .bytes) → m′ ≡ put m at (recordBytes (g .own .0) stored made)
+      → ChargedIs scheme (siteAt w R g) m at z slot m′ z′ (made .calls)
+  charged-done w R g made is m′ z′ is-z is-m = record {
+    zeros-left = rw (is .is-zero) at is-z;
+    material-left = is-m ∙ unfold recordBytes siteAt in (rw (start .is-stored, is .is-rows));
+    calls-made = is .is-calls;
+  }

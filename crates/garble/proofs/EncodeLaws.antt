@@ -12,17 +12,17 @@ use Rattle.model.specs.Evaluation.{cut, encode}
 use Rattle.model.proofs.Lists.{from-cong}
 use Rattle.model.proofs.Tokens.{block-length}
 use Rattle.model.proofs.Blocks.{Blocks, none, more, cut-at, cut-blocks}
-use Rattle.garble.specs.Written.{tokenOf, TokenRoom, EncodeStart}
+use Rattle.garble.specs.Written.{inputToken, TokenRoom, EncodeStart}
 use Rattle.garble.proofs.BlockLaws.{Filling, fill-start, fill-turn, fill-end}
 
 -- ---- input_token
 module _ (v : ℕ) (z o : List ℕ) (i : ℕ) (x : Block) where
-  pub token-zero : v ≡ 0 → x ≡ take 16 (drop (16 * i) z) → x ≡ tokenOf v z o i
-  unfolding tokenOf
+  pub token-zero : v ≡ 0 → x ≡ take 16 (drop (16 * i) z) → x ≡ inputToken v z o i
+  unfolding inputToken
   token-zero e f = rw e f
 
-  pub token-one : TokenRoom v z o i → (v ≡ 0 → ⊥) → x ≡ take 16 (drop (16 * i) o) → x ≡ tokenOf v z o i
-  unfolding tokenOf
+  pub token-one : TokenRoom v z o i → (v ≡ 0 → ⊥) → x ≡ take 16 (drop (16 * i) o) → x ≡ inputToken v z o i
+  unfolding inputToken
   token-one r h f =
       let b = r .bit in
       let e : v ≡ 1 = omega arith in
@@ -92,8 +92,8 @@ module _ (n : ℕ) (v z o t : List ℕ) (start : EncodeStart n v z o t) where
       pub encode-room : 16 * i + 16 ≤ length d
       encode-room = omega (arith, start .room, inv .tokens .same-length)
 
-      pub encode-turn : (x d′ : List ℕ) → x ≡ tokenOf (getD v i 0) z o i → d′ ≡ put d (16 * i) x → Encoding n v z o t (i + 1) d′
-      unfolding tokenOf chosen
+      pub encode-turn : (x d′ : List ℕ) → x ≡ inputToken (getD v i 0) z o i → d′ ≡ put d (16 * i) x → Encoding n v z o t (i + 1) d′
+      unfolding inputToken chosen
       encode-turn x d′ e f = record {
         within = omega arith;
         tokens = fill-turn wide (inv .tokens) h (start .room) x d′ (e ∙ rw (cut-at n i z h, cut-at n i o h)) f;

@@ -4,6 +4,7 @@ use mathlib.Core.Path.{_≡_, refl, sym, ap₂, _∙_}
 use mathlib.Core.List.{List}
 use lib.ListN.{length}
 use Rattle.model.specs.declared.Sizes.{Sizes}
+use Rattle.model.specs.declared.Wanted.{Wanted}
 use Rattle.model.specs.declared.Refusal.{Refusal}
 use Rattle.model.specs.declared.Checked.{Checked}
 use Rattle.model.specs.declared.Ran.{Ran}
@@ -22,61 +23,61 @@ pub room-made : (u : Verdict) (l needed room : ℕ) → l ≡ needed → u ≡ r
 room-made u l needed room e is-u = rw (← e) is-u
 
 -- the circuit's refusals, and then those by its sizes
-garble-verdict : (c seed : List ℕ) (scheme km kz ko : ℕ) → garbleVerdict c seed scheme km kz ko ≡ (circuitVerdict c then garbleArguments (sizesOf c) seed scheme km kz ko)
+garble-verdict : (c seed : List ℕ) (want : Wanted) (km kz ko : ℕ)
+    → garbleVerdict c seed want km kz ko ≡ (circuitVerdict c then garbleArguments (sizesOf c) seed (want .scheme) km kz ko)
 unfolding garbleVerdict garbleArguments roomsVerdict sizesOf
-garble-verdict c seed scheme km kz ko = simp then-assoc
+garble-verdict c seed want km kz ko = simp then-assoc
 
 -- what it tells that nothing refuses
-pub garble-fine : (c seed : List ℕ) (scheme : ℕ) (m z o : List ℕ) → garbleVerdict c seed scheme (length m) (length z) (length o) ≡ fine
-    → WholeStart c seed scheme (sizesOf c) m z o
+pub garble-fine : (c seed : List ℕ) (want : Wanted) (m z o : List ℕ) → garbleVerdict c seed want (length m) (length z) (length o) ≡ fine
+    → WholeStart c seed want (sizesOf c) m z o
 unfolding garbleVerdict
-garble-fine c seed scheme m z o e =
+garble-fine c seed want m z o e =
     let a = then-fine _ _ e in
     let b = then-fine _ _ (a .0) in
     let d = then-fine _ _ (b .0) in
     let f = then-fine _ _ (d .0) in
     let g = then-fine _ _ (f .0) in
     record {
-      accepted = g .0;
-      sizes = refl;
+      sized = record { accepted = g .0; sizes = refl };
       seed-length = seed-fine seed (g .1);
-      known = scheme-fine scheme (f .1);
+      known = scheme-fine (want .scheme) (f .1);
       file-room = room-fine _ _ (d .1);
       wires-room = room-fine _ _ (b .1);
       inputs-room = room-fine _ _ (a .1);
     }
 
-module _ (c seed : List ℕ) (scheme : ℕ) (m z o : List ℕ) where
-  refused-is : (i x : ℕ) → refused i x ≡ garbleVerdict c seed scheme (length m) (length z) (length o) → GarbleIs c seed scheme m z o (no (refused i x)) m z o
+module _ (c seed : List ℕ) (want : Wanted) (m z o : List ℕ) where
+  refused-is : (i x : ℕ) → refused i x ≡ garbleVerdict c seed want (length m) (length z) (length o) → GarbleIs c seed want m z o (no (refused i x)) m z o
   refused-is i x e = record { answered = rw (← e); material-left = rw (← e); zeros-left = rw (← e); ones-left = rw (← e) }
 
   -- check's answer r
   module _ (r : Checked) (is-r : checkedOf r ≡ checkAnswer c) where
-    pub garble-circuit : (f : Refusal) → r ≡ Checked.Refused f → GarbleIs c seed scheme m z o (no (verdictOf f)) m z o
+    pub garble-circuit : (f : Refusal) → r ≡ Checked.Refused f → GarbleIs c seed want m z o (no (verdictOf f)) m z o
     garble-circuit f e = refused-is _ _ (rw garble-verdict (then-refused _ _ _ _ (check-refused c r is-r f e)))
 
     -- and that of what it left to try
-    module _ (s : Sizes) (e : r ≡ Checked.Accepted s) (t : Ran) (is-t : ranOf t ≡ garbleArguments s seed scheme (length m) (length z) (length o)) where
+    module _ (s : Sizes) (e : r ≡ Checked.Accepted s) (t : Ran) (is-t : ranOf t ≡ garbleArguments s seed (want .scheme) (length m) (length z) (length o)) where
       known : Accepted c s
       known = check-accepted c r is-r s e
 
-      tried : ranOf t ≡ garbleVerdict c seed scheme (length m) (length z) (length o)
+      tried : ranOf t ≡ garbleVerdict c seed want (length m) (length z) (length o)
       tried =
-          is-t ∙ left-to-try c s known (λ x. garbleArguments x seed scheme (length m) (length z) (length o))
-          ∙ sym (garble-verdict c seed scheme (length m) (length z) (length o))
+          is-t ∙ left-to-try c s known (λ x. garbleArguments x seed (want .scheme) (length m) (length z) (length o))
+          ∙ sym (garble-verdict c seed want (length m) (length z) (length o))
 
-      pub garble-turned : (f : Refusal) → t ≡ Ran.Refused f → GarbleIs c seed scheme m z o (no (verdictOf f)) m z o
+      pub garble-turned : (f : Refusal) → t ≡ Ran.Refused f → GarbleIs c seed want m z o (no (verdictOf f)) m z o
       garble-turned f g = refused-is _ _ (ran-refused t _ tried f g)
 
       module _ (g : t ≡ Ran.Done) where
-        is-fine : garbleVerdict c seed scheme (length m) (length z) (length o) ≡ fine
+        is-fine : garbleVerdict c seed want (length m) (length z) (length o) ≡ fine
         is-fine = sym (ran-done t _ tried g)
 
-        pub garble-go : WholeStart c seed scheme s m z o
-        garble-go = rw (known .sizes) (garble-fine c seed scheme m z o is-fine)
+        pub garble-go : WholeStart c seed want s m z o
+        garble-go = rw (known .sizes) (garble-fine c seed want m z o is-fine)
 
-        pub garble-done : (l : ℕ) → l ≡ materialLength scheme (s .m) (s .p) → (m′ z′ o′ : List ℕ) (calls : ℕ) → WholeIs c seed scheme m z o m′ z′ o′ calls
-            → GarbleIs c seed scheme m z o (yes (made l calls)) m′ z′ o′
+        pub garble-done : (l : ℕ) → l ≡ materialLength (want .scheme) (s .m) (s .p) → (m′ z′ o′ : List ℕ) (calls : ℕ) → WholeIs c seed want m z o m′ z′ o′ calls
+            → GarbleIs c seed want m z o (yes (made l calls)) m′ z′ o′
         unfolding garbleMade
         garble-done l is-l m′ z′ o′ calls done = record {
           answered = rw is-fine (ap₂ (λ (a b : ℕ). yes (made a b)) (is-l ∙ rw (is-m c s known, is-p c s known)) (done .calls-made));

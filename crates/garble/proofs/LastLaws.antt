@@ -11,12 +11,11 @@ use Rattle.model.specs.Bytes.{tabulate, over, put}
 use Rattle.model.specs.Circuit.{circuitOf, inputs, outputs, gates}
 use Rattle.model.specs.Tokens.{colour}
 use Rattle.model.specs.Evaluation.{tokenAt}
-use Rattle.model.specs.Operations.{sizesOf}
 use Rattle.model.proofs.Lists.{tabulate-snoc, tabulate-length, map-elements}
 use Rattle.model.proofs.Buffers.{put-none, put-put, put-length}
 use Rattle.model.proofs.Outputs.{outputs-many, output-low, output-high}
-use Rattle.model.proofs.Accepted.{accepted-header}
 use Rattle.circuit.specs.Outputs.{OutputStart}
+use Rattle.circuit.proofs.AcceptedLaws as Sized
 use Rattle.garble.specs.Walk.{ColoursStart}
 
 -- one byte at an index
@@ -36,8 +35,7 @@ pub record Writing (c : List ℕ) (z : List ℕ) (at : ℕ) (o : List ℕ) (i : 
 
 module _ (c : List ℕ) (s : Sizes) (z o : List ℕ) (at : ℕ) (start : ColoursStart c s z o at) where
   is-m : s .m ≡ outputs c
-  unfolding sizesOf
-  is-m = ap (λ (x : Sizes). x .m) (start .sizes)
+  is-m = Sized.is-m c s (start .sized)
 
   pub colours-start : Writing c z at o 0 o
   colours-start = record { within = omega arith; same-length = refl; so-far = put-none o at }
@@ -45,7 +43,7 @@ module _ (c : List ℕ) (s : Sizes) (z o : List ℕ) (at : ℕ) (start : Colours
   -- an output, and its wire as it was told
   module _ (j : ℕ) (h : j < s .m) where
     pub colours-output : OutputStart c s j
-    colours-output = record { accepted = start .accepted; sizes = start .sizes; more = rw is-m at h }
+    colours-output = record { sized = start .sized; more = rw is-m at h }
 
     module _ (w : ℕ) (is-w : w ≡ getD (circuitOf c .outputs) j 0) where
       pub colours-wire : 1 ≤ w
@@ -53,7 +51,7 @@ module _ (c : List ℕ) (s : Sizes) (z o : List ℕ) (at : ℕ) (start : Colours
 
       pub colours-token : 16 * (w - 1) + 16 ≤ length z
       colours-token =
-          let few : outputs c ≤ inputs c + gates c = omega (arith, accepted-header c (start .accepted) .sizes .m-high) in
+          let few : outputs c ≤ inputs c + gates c = omega (arith, Sized.limits c s (start .sized) .sizes .m-high) in
           omega (arith, is-w, colours-wire, output-high c few j (rw is-m at h), start .tokens)
 
   module _ (i : ℕ) (d : List ℕ) (inv : Writing c z at o i d) where
@@ -85,8 +83,7 @@ pub ruleset colours-cases = (colours-start, colours-end, colours-output, colours
 module _ (c : List ℕ) (s : Sizes) (z o : List ℕ) (at : ℕ) (start : ColoursStart c s z o (at + 2)) (d : List ℕ) (is-d : d ≡ put o at (0x47 ∷ 0x44 ∷ [])) where
   pub last-colours : ColoursStart c s z d (at + 2)
   last-colours = record {
-    accepted = start .accepted;
-    sizes = start .sizes;
+    sized = start .sized;
     tokens = start .tokens;
     room = rw (is-d, put-length o at (0x47 ∷ 0x44 ∷ []) (omega (arith, start .room))) (start .room);
   }

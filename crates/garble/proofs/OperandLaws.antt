@@ -9,7 +9,7 @@ use Rattle.model.specs.Circuit.{inputs, gateAt, gateWire}
 use Rattle.model.specs.Evaluation.{tokenAt}
 use Rattle.model.proofs.Accepted.{HeaderHolds, GateHolds, accepted-header, accepted-gate}
 use Rattle.garble.specs.Walk.{OperandsStart, GateInIs}
-use Rattle.garble.specs.declared.records.GateIn.{GateIn}
+use Rattle.garble.specs.declared.gate.GateIn.{GateIn}
 
 module _ (c : List ℕ) (n k : ℕ) (z : List ℕ) (start : OperandsStart c n k z) where
   in-circuit : HeaderHolds c

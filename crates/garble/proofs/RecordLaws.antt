@@ -7,7 +7,7 @@ use lib.ListN.{length, length-append}
 use Rattle.model.specs.Bytes.{put, two}
 use Rattle.model.specs.Material.{joinBlocks}
 use Rattle.model.proofs.Buffers.{put-put}
-use Rattle.garble.specs.Walk.{RecordRoom, recordBytes}
+use Rattle.garble.specs.Walk.{WriterRoom, recordBytes}
 use Rattle.scheme.specs.declared.GarbledGate.{GarbledGate}
 
 -- b and then r after it, at j: the piece grows
@@ -17,7 +17,7 @@ grown o at b r m m′ j e f h l = f ∙ rw e (put-put o at b r j h l)
 
 module _ (o : List ℕ) (at own : ℕ) (g : GarbledGate) where
   -- two rows
-  module _ (room : RecordRoom at 2 o) (w0 : length (g .row0 .bytes) ≡ 16) (w1 : length (g .row1 .bytes) ≡ 16) where
+  module _ (room : WriterRoom at 2 o) (w0 : length (g .row0 .bytes) ≡ 16) (w1 : length (g .row1 .bytes) ≡ 16) where
     module _ (m1 : List ℕ) (is-1 : m1 ≡ put o at (0x47 ∷ 0x54 ∷ two own)) where
       module _ (m2 : List ℕ) (is-2 : m2 ≡ put m1 (at + 4) (g .row0 .bytes)) where
         head-row : m2 ≡ put o at (0x47 ∷ 0x54 ∷ two own ++ g .row0 .bytes)
@@ -34,7 +34,7 @@ module _ (o : List ℕ) (at own : ℕ) (g : GarbledGate) where
   record-2 w0 w1 = simp length-append (omega (arith, w0, w1))
 
   -- a third
-  module _ (room : RecordRoom at 3 o) (w0 : length (g .row0 .bytes) ≡ 16) (w1 : length (g .row1 .bytes) ≡ 16) (w2 : length (g .row2 .bytes) ≡ 16) where
+  module _ (room : WriterRoom at 3 o) (w0 : length (g .row0 .bytes) ≡ 16) (w1 : length (g .row1 .bytes) ≡ 16) (w2 : length (g .row2 .bytes) ≡ 16) where
     module _ (m1 : List ℕ) (is-1 : m1 ≡ put o at (recordBytes own 2 g)) where
       pub three-written : (m2 : List ℕ) → m2 ≡ put m1 (at + 36) (g .row2 .bytes) → m2 ≡ put o at (recordBytes own 3 g)
       three-written m2 is-2 =
@@ -46,7 +46,7 @@ module _ (o : List ℕ) (at own : ℕ) (g : GarbledGate) where
   record-3 w0 w1 w2 = simp length-append (omega (arith, w0, w1, w2))
 
   -- a fourth
-  module _ (room : RecordRoom at 4 o) (w0 : length (g .row0 .bytes) ≡ 16) (w1 : length (g .row1 .bytes) ≡ 16) (w2 : length (g .row2 .bytes) ≡ 16) (w3 : length (g .row3 .bytes) ≡ 16) where
+  module _ (room : WriterRoom at 4 o) (w0 : length (g .row0 .bytes) ≡ 16) (w1 : length (g .row1 .bytes) ≡ 16) (w2 : length (g .row2 .bytes) ≡ 16) (w3 : length (g .row3 .bytes) ≡ 16) where
     module _ (m1 : List ℕ) (is-1 : m1 ≡ put o at (recordBytes own 3 g)) where
       pub four-written : (m2 : List ℕ) → m2 ≡ put m1 (at + 52) (g .row3 .bytes) → m2 ≡ put o at (recordBytes own 4 g)
       four-written m2 is-2 =
@@ -54,7 +54,7 @@ module _ (o : List ℕ) (at own : ℕ) (g : GarbledGate) where
           ∙ ap (put o at) (unfold recordBytes joinBlocks in (rw (append-nil, append-nil, append-assoc (g .row0 .bytes) (g .row1 .bytes ++ g .row2 .bytes) (g .row3 .bytes), append-assoc (g .row1 .bytes) (g .row2 .bytes) (g .row3 .bytes))))
 
   -- ---- by the number of rows
-  module _ (stored : ℕ) (room : RecordRoom at stored o) (m : List ℕ) where
+  module _ (stored : ℕ) (room : WriterRoom at stored o) (m : List ℕ) where
     pub is-two : stored ≡ 2 → m ≡ put o at (recordBytes own 2 g) → m ≡ put o at (recordBytes own stored g)
     is-two e f = rw e f
 

@@ -8,6 +8,7 @@ use lib.ListN.{length, take, drop, length-append, take-append-drop}
 use lib.Seq.{take-at}
 use mir.Syntax.{w64}
 use mir.Val.{Fits}
+use Rattle.model.specs.declared.Wanted.{Wanted}
 use Rattle.model.specs.Bytes.{tabulate, over}
 use Rattle.model.specs.Circuit.{kindOf, charge, charges, circuitOf, inputs, outputs, gates, gateAt, wires}
 use Rattle.model.specs.Aes.{Block}
@@ -26,46 +27,47 @@ use Rattle.model.proofs.OneMore.{records-snoc}
 use Rattle.model.proofs.Calls.{garble-calls-at, garble-calls-all, garble-calls-snoc}
 use Rattle.model.proofs.Accepted.{accepted-header}
 use Rattle.garble.specs.Walk.{zerosTo, WalkOf, StepStart, StepIs, GatesStart, GatesIs}
+use Rattle.garble.specs.declared.plan.Plan.{Plan}
 use Rattle.garble.proofs.BlockLaws.{over-block}
 use Rattle.garble.proofs.StepLaws.{zeros-many}
 
 -- the records of the first k gates
-recordsTo : List ℕ → List ℕ → ℕ → ℕ → List ℕ
-recordsTo c seed scheme k = records (garblingOf c seed scheme) (tabulate k (gateAt c)) (inputZeros (garblingOf c seed scheme))
+recordsTo : List ℕ → List ℕ → Wanted → ℕ → List ℕ
+recordsTo c seed want k = records (garblingOf c seed want) (tabulate k (gateAt c)) (inputZeros (garblingOf c seed want))
 
 -- k gates are done, by so many calls of π: m and z were m₀ and z₀ at the start
-pub record Walking (c seed : List ℕ) (scheme q : ℕ) (m₀ z₀ : List ℕ) (k at calls : ℕ) (m z : List ℕ) : Type 0 where
+pub record Walking (c seed : List ℕ) (want : Wanted) (q : ℕ) (m₀ z₀ : List ℕ) (k at calls : ℕ) (m z : List ℕ) : Type 0 where
   pub within : k ≤ q
-  pub is-at : at ≡ lastStart scheme (charges (tabulate k (gateAt c)))
+  pub is-at : at ≡ lastStart (want .scheme) (charges (tabulate k (gateAt c)))
   pub material-length : length m ≡ length m₀
   pub zeros-length : length z ≡ length z₀
-  material : m ≡ over (header (garblingOf c seed scheme) ++ recordsTo c seed scheme k) m₀
-  zeros : z ≡ over (joinBlocks (zerosTo c seed scheme k)) z₀
-  counted : calls ≡ garbleCalls (garblingOf c seed scheme) (tabulate k (gateAt c)) (inputZeros (garblingOf c seed scheme))
+  material : m ≡ over (header (garblingOf c seed want) ++ recordsTo c seed want k) m₀
+  zeros : z ≡ over (joinBlocks (zerosTo c seed want k)) z₀
+  counted : calls ≡ garbleCalls (garblingOf c seed want) (tabulate k (gateAt c)) (inputZeros (garblingOf c seed want))
 
-module _ (c seed : List ℕ) (scheme n r : ℕ) (R : Block) (w : List ℕ) (walk : WalkOf c seed scheme n r R w)
-    (q : ℕ) (m₀ z₀ : List ℕ) (start : GatesStart c seed scheme q m₀ z₀) where
+module _ (c seed : List ℕ) (want : Wanted) (plan : Plan) (w : List ℕ) (walk : WalkOf c seed want plan w)
+    (q : ℕ) (m₀ z₀ : List ℕ) (start : GatesStart c seed want q m₀ z₀) where
   -- a buffer whose front is p
   front : (p o : List ℕ) (k : ℕ) → length p ≡ k → take k o ≡ p → o ≡ over p o
   unfolding over
   front p o k l e = rw l (sym (ap (λ (x : List ℕ). x ++ drop k o) (sym e) ∙ take-append-drop k o))
 
-  pub walk-start : Walking c seed scheme q m₀ z₀ 0 9 0 m₀ z₀
+  pub walk-start : Walking c seed want q m₀ z₀ 0 9 0 m₀ z₀
   unfolding recordsTo records zerosTo wires charges circuitOf garbleCalls
   walk-start = record {
     within = omega arith;
-    is-at = sym (start-first scheme (gateAt c));
+    is-at = sym (start-first (want .scheme) (gateAt c));
     material-length = refl;
     zeros-length = refl;
-    material = rw append-nil (front (header (garblingOf c seed scheme)) m₀ 9 (header-length (garblingOf c seed scheme)) (start .header-front));
+    material = rw append-nil (front (header (garblingOf c seed want)) m₀ 9 (header-length (garblingOf c seed want)) (start .header-front));
     zeros =
-        front (joinBlocks (inputZeros (garblingOf c seed scheme))) z₀ (16 * inputs c)
-        (join-length (input-zeros-blocks (garblingOf c seed scheme))) (start .inputs-front);
+        front (joinBlocks (inputZeros (garblingOf c seed want))) z₀ (16 * inputs c)
+        (join-length (input-zeros-blocks (garblingOf c seed want))) (start .inputs-front);
     counted = refl;
   }
 
-  module _ (k at calls : ℕ) (m z : List ℕ) (inv : Walking c seed scheme q m₀ z₀ k at calls m z) where
-    pub walk-end : q ≤ k → GatesIs c seed scheme m₀ z₀ m z calls
+  module _ (k at calls : ℕ) (m z : List ℕ) (inv : Walking c seed want q m₀ z₀ k at calls m z) where
+    pub walk-end : q ≤ k → GatesIs c seed want m₀ z₀ m z calls
     unfolding recordsTo zerosTo zeroTokens circuitOf
     walk-end h =
         let e : k ≡ gates c = omega (arith, inv .within, start .is-q) in
@@ -73,38 +75,38 @@ module _ (c seed : List ℕ) (scheme n r : ℕ) (R : Block) (w : List ℕ) (walk
 
     module _ (more : k < q) where
       -- the bytes of the material so far
-      so-long : length (header (garblingOf c seed scheme) ++ recordsTo c seed scheme k) ≡ at
+      so-long : length (header (garblingOf c seed want) ++ recordsTo c seed want k) ≡ at
       unfolding recordsTo lastStart
       so-long =
-          length-append (header (garblingOf c seed scheme)) _
-          ∙ rw (header-length (garblingOf c seed scheme), records-length (garblingOf c seed scheme) (tabulate k (gateAt c)) (inputZeros (garblingOf c seed scheme)), inv .is-at)
+          length-append (header (garblingOf c seed want)) _
+          ∙ rw (header-length (garblingOf c seed want), records-length (garblingOf c seed want) (tabulate k (gateAt c)) (inputZeros (garblingOf c seed want)), inv .is-at)
 
       below : k < gates c
       below = omega (arith, start .is-q)
 
-      pub walk-step : StepStart c seed scheme k at m z
+      pub walk-step : StepStart c seed want k at m z
       unfolding over
       walk-step = record {
         more = below;
         is-at = inv .is-at;
         file-room = omega (arith, start .file-room, inv .material-length);
         wires-room = omega (arith, start .wires-room, inv .zeros-length);
-        so-far = rw (inv .zeros) (take-at (joinBlocks (zerosTo c seed scheme k)) _ (16 * (inputs c + k)) (join-length (zeros-many c seed scheme n r R w walk k)));
+        so-far = rw (inv .zeros) (take-at (joinBlocks (zerosTo c seed want k)) _ (16 * (inputs c + k)) (join-length (zeros-many c seed want plan w walk k)));
       }
 
       -- the record of gate k fits
-      record-room : at + charge (kindOf (gateAt c k .code)) * recordLength (schemeOf scheme) ≤ length m₀
+      record-room : at + charge (kindOf (gateAt c k .code)) * recordLength (schemeOf (want .scheme)) ≤ length m₀
       unfolding circuitOf
       record-room =
           omega (
             arith,
-            record-fits scheme (gateAt c) k (gates c) below,
-            length-last scheme (outputs c) (charges (tabulate (gates c) (gateAt c))),
+            record-fits (want .scheme) (gateAt c) k (gates c) below,
+            length-last (want .scheme) (outputs c) (charges (tabulate (gates c) (gateAt c))),
             inv .is-at,
             start .file-room,
           )
 
-      module _ (next made : ℕ) (m′ z′ : List ℕ) (done : StepIs c seed scheme k at m z next made m′ z′) where
+      module _ (next made : ℕ) (m′ z′ : List ℕ) (done : StepIs c seed want k at m z next made m′ z′) where
         -- no count overflows
         pub walk-calls : Fits w64 (calls + made)
         walk-calls =
@@ -112,56 +114,56 @@ module _ (c seed : List ℕ) (scheme n r : ℕ) (R : Block) (w : List ℕ) (walk
             omega (
               arith,
               inv .counted,
-              garble-calls-all (garblingOf c seed scheme) gs (inputZeros (garblingOf c seed scheme)),
+              garble-calls-all (garblingOf c seed want) gs (inputZeros (garblingOf c seed want)),
               charges-le gs,
               tabulate-length k (gateAt c),
               below,
               accepted-header c (walk .accepted) .sizes .sum,
               done .calls-made,
-              garble-calls-at (garblingOf c seed scheme) (kindOf (gateAt c k .code)) (siteOf (garblingOf c seed scheme) (zerosTo c seed scheme k) (gateAt c k)),
+              garble-calls-at (garblingOf c seed want) (kindOf (gateAt c k .code)) (siteOf (garblingOf c seed want) (zerosTo c seed want k) (gateAt c k)),
               charge-le (kindOf (gateAt c k .code)),
             )
 
         piece : List ℕ
-        piece = recordOf (garblingOf c seed scheme) (kindOf (gateAt c k .code)) (siteOf (garblingOf c seed scheme) (zerosTo c seed scheme k) (gateAt c k))
+        piece = recordOf (garblingOf c seed want) (kindOf (gateAt c k .code)) (siteOf (garblingOf c seed want) (zerosTo c seed want k) (gateAt c k))
 
-        piece-long : length piece ≡ charge (kindOf (gateAt c k .code)) * recordLength (schemeOf scheme)
+        piece-long : length piece ≡ charge (kindOf (gateAt c k .code)) * recordLength (schemeOf (want .scheme))
         unfolding piece
-        piece-long = record-length (garblingOf c seed scheme) (kindOf (gateAt c k .code)) _
+        piece-long = record-length (garblingOf c seed want) (kindOf (gateAt c k .code)) _
 
-        material-next : m′ ≡ over (header (garblingOf c seed scheme) ++ recordsTo c seed scheme (k + 1)) m₀
+        material-next : m′ ≡ over (header (garblingOf c seed want) ++ recordsTo c seed want (k + 1)) m₀
         unfolding piece recordsTo zerosTo
         material-next =
             done .material-left
-            ∙ rw (inv .material, add-one, tabulate-snoc k (gateAt c), records-snoc (garblingOf c seed scheme) (tabulate k (gateAt c)) (gateAt c k) (inputZeros (garblingOf c seed scheme)))
-            (over-put (header (garblingOf c seed scheme) ++ recordsTo c seed scheme k) m₀ piece at so-long (omega (arith, piece-long, record-room))
-            ∙ ap (λ (l : List ℕ). over l m₀) (append-assoc (header (garblingOf c seed scheme)) (recordsTo c seed scheme k) piece))
+            ∙ rw (inv .material, add-one, tabulate-snoc k (gateAt c), records-snoc (garblingOf c seed want) (tabulate k (gateAt c)) (gateAt c k) (inputZeros (garblingOf c seed want)))
+            (over-put (header (garblingOf c seed want) ++ recordsTo c seed want k) m₀ piece at so-long (omega (arith, piece-long, record-room))
+            ∙ ap (λ (l : List ℕ). over l m₀) (append-assoc (header (garblingOf c seed want)) (recordsTo c seed want k) piece))
 
         token : Block
-        token = zeroStep (garblingOf c seed scheme) (zerosTo c seed scheme k) (gateAt c k)
+        token = zeroStep (garblingOf c seed want) (zerosTo c seed want k) (gateAt c k)
 
         token-wide : length token ≡ 16
         unfolding token
-        token-wide = zero-step-wide (garblingOf c seed scheme) _ (gateAt c k)
+        token-wide = zero-step-wide (garblingOf c seed want) _ (gateAt c k)
 
-        zeros-next : z′ ≡ over (joinBlocks (zerosTo c seed scheme (k + 1))) z₀
+        zeros-next : z′ ≡ over (joinBlocks (zerosTo c seed want (k + 1))) z₀
         unfolding token zerosTo
         zeros-next =
             done .zeros-left
-            ∙ rw (inv .zeros, add-one, tabulate-snoc k (gateAt c), wires-snoc (zeroStep (garblingOf c seed scheme)) (tabulate k (gateAt c)) (gateAt c k) (inputZeros (garblingOf c seed scheme)))
-            (over-block (zeros-many c seed scheme n r R w walk k) token z₀ token-wide (omega (arith, below, start .wires-room)))
+            ∙ rw (inv .zeros, add-one, tabulate-snoc k (gateAt c), wires-snoc (zeroStep (garblingOf c seed want)) (tabulate k (gateAt c)) (gateAt c k) (inputZeros (garblingOf c seed want)))
+            (over-block (zeros-many c seed want plan w walk k) token z₀ token-wide (omega (arith, below, start .wires-room)))
 
-        counted-next : calls + made ≡ garbleCalls (garblingOf c seed scheme) (tabulate (k + 1) (gateAt c)) (inputZeros (garblingOf c seed scheme))
+        counted-next : calls + made ≡ garbleCalls (garblingOf c seed want) (tabulate (k + 1) (gateAt c)) (inputZeros (garblingOf c seed want))
         unfolding zerosTo
         counted-next =
-            rw (add-one, tabulate-snoc k (gateAt c), garble-calls-snoc (garblingOf c seed scheme) (tabulate k (gateAt c)) (gateAt c k) (inputZeros (garblingOf c seed scheme)))
+            rw (add-one, tabulate-snoc k (gateAt c), garble-calls-snoc (garblingOf c seed want) (tabulate k (gateAt c)) (gateAt c k) (inputZeros (garblingOf c seed want)))
             (ap₂ (λ (x y : ℕ). x + y) (inv .counted) (done .calls-made))
 
-        pub walk-turn : Walking c seed scheme q m₀ z₀ (k + 1) next (calls + made) m′ z′
+        pub walk-turn : Walking c seed want q m₀ z₀ (k + 1) next (calls + made) m′ z′
         unfolding piece token
         walk-turn = record {
           within = omega arith;
-          is-at = done .is-next ∙ rw (inv .is-at) (sym (start-next scheme (gateAt c) k));
+          is-at = done .is-next ∙ rw (inv .is-at) (sym (start-next (want .scheme) (gateAt c) k));
           material-length =
               ap length (done .material-left) ∙ put-length m at piece (omega (arith, piece-long, record-room, inv .material-length)) ∙ inv .material-length;
           zeros-length =

@@ -6,34 +6,32 @@ use mathlib.Core.List.{List}
 use lib.ListN.{length, take, drop}
 use lib.Seq.{take-all, take-at}
 use Rattle.model.specs.declared.Sizes.{Sizes}
+use Rattle.model.specs.declared.Wanted.{Wanted}
 use Rattle.model.specs.Bytes.{over}
 use Rattle.model.specs.Circuit.{charges, circuitOf, inputs, outputs, gates}
-use Rattle.model.specs.Aes.{Block, block, cipher, keyExpansion, aes}
-use Rattle.model.specs.Tokens.{garblingOf, coloured, seedBlock, offset, inputZeros, oneToken}
-use Rattle.model.specs.Garbling.{schemeOf, zeroTokens, inputOnes}
+use Rattle.model.specs.Aes.{Block, keyExpansion, aes}
+use Rattle.model.specs.Tokens.{garblingOf, seedBlock, offset, inputZeros, oneToken}
+use Rattle.model.specs.Garbling.{zeroTokens, inputOnes}
 use Rattle.model.specs.Material.{joinBlocks, materialLength, header, material}
 use Rattle.model.proofs.Lists.{tabulate-length, tabulate-map}
 use Rattle.model.proofs.Buffers.{over-length, over-over}
 use Rattle.model.proofs.Outputs.{outputs-many}
 use Rattle.model.proofs.Blocks.{join-length}
 use Rattle.model.proofs.Lengths.{input-zeros-blocks, zero-tokens-blocks, header-length, material-length}
-use Rattle.circuit.specs.Accepted.{Accepted}
 use Rattle.circuit.proofs.AcceptedLaws as Sized
-use Rattle.garble.specs.Walk.{WalkOf, FrontStart, FrontIs, BodyStart, BodyIs}
+use Rattle.garble.specs.declared.plan.Plan.{Plan}
+use Rattle.garble.specs.Walk.{PlanIs, WalkOf, FrontStart, FrontIs, BodyStart, BodyIs}
 use Rattle.garble.specs.Whole.{WholeStart, WholeIs}
 
-module _ (c seed : List ℕ) (scheme : ℕ) (s : Sizes) (m z o : List ℕ) (start : WholeStart c seed scheme s m z o) where
-  known : Accepted c s
-  known = record { accepted = start .accepted; sizes = start .sizes }
-
+module _ (c seed : List ℕ) (want : Wanted) (s : Sizes) (m z o : List ℕ) (start : WholeStart c seed want s m z o) where
   is-n : s .n ≡ inputs c
-  is-n = Sized.is-n c s known
+  is-n = Sized.is-n c s (start .sized)
 
   is-m : s .m ≡ outputs c
-  is-m = Sized.is-m c s known
+  is-m = Sized.is-m c s (start .sized)
 
   is-q : s .q ≡ gates c
-  is-q = Sized.is-q c s known
+  is-q = Sized.is-q c s (start .sized)
 
   pub whole-front : FrontStart (s .n) m z o
   unfolding materialLength
@@ -43,92 +41,94 @@ module _ (c seed : List ℕ) (scheme : ℕ) (s : Sizes) (m z o : List ℕ) (star
     ones-room = omega (arith, start .inputs-room, is-n);
   }
 
-  -- the key, its schedule, and the offset, as they were made
-  module _ (k w b R : List ℕ) (stored : ℕ) (is-k : k ≡ take 16 (drop 0 seed)) (is-w : w ≡ keyExpansion k) (is-b : b ≡ cipher w (block 0)) (is-R : R ≡ coloured b)
-      (is-rows : stored ≡ schemeOf scheme .stored) where
+  -- the seed as a block, its schedule, and the plan, as they were made
+  module _ (k w : List ℕ) (plan : Plan) (is-k : k ≡ take 16 (drop 0 seed)) (is-w : w ≡ keyExpansion k) (is-plan : PlanIs k want (s .n) plan) where
+    -- a seed is its own front
+    is-seed : k ≡ seed
+    is-seed = is-k ∙ take-all 16 seed (omega (arith, start .seed-length))
+
+    offset-is : plan .r .bytes ≡ offset (garblingOf c seed want)
+    unfolding offset seedBlock
+    offset-is = is-plan .is-offset ∙ rw is-seed
+
     schedule : w ≡ keyExpansion seed
-    schedule = is-w ∙ ap keyExpansion (is-k ∙ take-all 16 seed (omega (arith, start .seed-length)))
+    schedule = is-w ∙ ap keyExpansion is-seed
 
-    offset-is : R ≡ offset (garblingOf c seed scheme)
-    unfolding offset seedBlock aes
-    offset-is = is-R ∙ ap coloured (is-b ∙ ap (λ (x : List ℕ). cipher x (block 0)) schedule)
-
-    pub whole-walk : WalkOf c seed scheme (s .n) stored R w
-    whole-walk = record {
-      accepted = start .accepted;
-      known = start .known;
-      is-n = is-n;
-      is-rows = is-rows;
-      is-offset = offset-is;
-      is-schedule = schedule;
-    }
+    pub whole-walk : WalkOf c (plan .seed .bytes) (plan .wanted) plan w
+    whole-walk = go _ _ (is-plan .is-seed) (is-plan .is-wanted)
+      where
+        go : (x : List ℕ) (y : Wanted) → x ≡ k → y ≡ want → WalkOf c x y plan w
+        go x y e f = rw (e, f) (record { accepted = start .sized .accepted; known = start .known; plan-is = rw (← is-n) is-plan; is-schedule = is-w })
 
     -- the fronts as they were written
-    module _ (m1 z1 o1 : List ℕ) (front : FrontIs w R scheme (s .n) (s .m) (s .q) m z o m1 z1 o1) where
-      header-is : m1 ≡ over (header (garblingOf c seed scheme)) m
+    module _ (m1 z1 o1 : List ℕ) (front : FrontIs w (plan .r .bytes) (plan .wanted .scheme) (s .n) (s .m) (s .q) m z o m1 z1 o1) where
+      header-is : m1 ≡ over (header (garblingOf c seed want)) m
       unfolding header circuitOf
-      header-is = front .header-is ∙ rw (is-n, is-m, is-q, outputs-many c, tabulate-length)
+      header-is = front .header-is ∙ rw (is-plan .is-wanted, is-n, is-m, is-q, outputs-many c, tabulate-length)
 
-      zeros-are : z1 ≡ over (joinBlocks (inputZeros (garblingOf c seed scheme))) z
+      zeros-are : z1 ≡ over (joinBlocks (inputZeros (garblingOf c seed want))) z
       unfolding inputZeros seedBlock aes circuitOf
       zeros-are = front .inputs-are .zeros-left ∙ rw (schedule, is-n)
 
-      ones-are : o1 ≡ over (joinBlocks (inputOnes (garblingOf c seed scheme))) o
+      ones-are : o1 ≡ over (joinBlocks (inputOnes (garblingOf c seed want))) o
       unfolding inputOnes inputZeros oneToken seedBlock aes circuitOf
       ones-are =
           front .inputs-are .ones-left
           ∙ rw (offset-is, schedule, is-n)
-          (ap (λ (l : List Block). over (joinBlocks l) o) (sym (tabulate-map (oneToken (garblingOf c seed scheme)) (inputs c) (λ i. seedBlock (garblingOf c seed scheme) (i + 1)))))
+          (ap (λ (l : List Block). over (joinBlocks l) o) (sym (tabulate-map (oneToken (garblingOf c seed want)) (inputs c) (λ i. seedBlock (garblingOf c seed want) (i + 1)))))
 
-      inputs-long : length (joinBlocks (inputZeros (garblingOf c seed scheme))) ≡ 16 * inputs c
+      inputs-long : length (joinBlocks (inputZeros (garblingOf c seed want))) ≡ 16 * inputs c
       unfolding circuitOf
-      inputs-long = join-length (input-zeros-blocks (garblingOf c seed scheme))
+      inputs-long = join-length (input-zeros-blocks (garblingOf c seed want))
 
-      header-long : length (header (garblingOf c seed scheme)) ≡ 9
-      header-long = header-length (garblingOf c seed scheme)
+      header-long : length (header (garblingOf c seed want)) ≡ 9
+      header-long = header-length (garblingOf c seed want)
 
       material-same : length m1 ≡ length m
-      material-same = ap length header-is ∙ over-length (header (garblingOf c seed scheme)) m (omega (arith, header-long, whole-front .header-room))
+      material-same = ap length header-is ∙ over-length (header (garblingOf c seed want)) m (omega (arith, header-long, whole-front .header-room))
 
       zeros-same : length z1 ≡ length z
-      zeros-same = ap length zeros-are ∙ over-length (joinBlocks (inputZeros (garblingOf c seed scheme))) z (omega (arith, inputs-long, start .wires-room))
+      zeros-same = ap length zeros-are ∙ over-length (joinBlocks (inputZeros (garblingOf c seed want))) z (omega (arith, inputs-long, start .wires-room))
 
-      pub whole-body : BodyStart c seed scheme s m1 z1
+      pub whole-body : BodyStart c (plan .seed .bytes) (plan .wanted) s m1 z1
       unfolding over circuitOf
-      whole-body = record {
-        sizes = start .sizes;
+      whole-body = rw (is-plan .is-seed, is-plan .is-wanted, is-seed) record {
+        sized = start .sized;
         gates-start = record {
           is-q = is-q;
           file-room = rw material-same (start .file-room);
           wires-room = rw zeros-same (start .wires-room);
-          header-front = rw header-is (take-at (header (garblingOf c seed scheme)) _ 9 header-long);
-          inputs-front = rw zeros-are (take-at (joinBlocks (inputZeros (garblingOf c seed scheme))) _ (16 * inputs c) inputs-long);
+          header-front = rw header-is (take-at (header (garblingOf c seed want)) _ 9 header-long);
+          inputs-front = rw zeros-are (take-at (joinBlocks (inputZeros (garblingOf c seed want))) _ (16 * inputs c) inputs-long);
         };
       }
 
       -- the body as it was written
-      module _ (m2 z2 : List ℕ) (calls : ℕ) (body : BodyIs c seed scheme m1 z1 m2 z2 calls) where
-        material-long : length (material (garblingOf c seed scheme)) ≡ materialLength scheme (outputs c) (charges (circuitOf c .gates))
-        material-long = rw (outputs-many c) at (material-length (garblingOf c seed scheme))
+      module _ (m2 z2 : List ℕ) (calls : ℕ) (body : BodyIs c (plan .seed .bytes) (plan .wanted) m1 z1 m2 z2 calls) where
+        done : BodyIs c seed want m1 z1 m2 z2 calls
+        done = rw (is-plan .is-seed, is-plan .is-wanted, is-seed) at body
 
-        header-within : 9 ≤ length (material (garblingOf c seed scheme))
+        material-long : length (material (garblingOf c seed want)) ≡ materialLength (want .scheme) (outputs c) (charges (circuitOf c .gates))
+        material-long = rw (outputs-many c) at (material-length (garblingOf c seed want))
+
+        header-within : 9 ≤ length (material (garblingOf c seed want))
         unfolding materialLength
         header-within = omega (arith, material-long)
 
-        zeros-long : length (joinBlocks (zeroTokens (garblingOf c seed scheme))) ≡ 16 * (inputs c + gates c)
+        zeros-long : length (joinBlocks (zeroTokens (garblingOf c seed want))) ≡ 16 * (inputs c + gates c)
         unfolding circuitOf
-        zeros-long = join-length (rw tabulate-length at (zero-tokens-blocks (garblingOf c seed scheme)))
+        zeros-long = join-length (rw tabulate-length at (zero-tokens-blocks (garblingOf c seed want)))
 
-        pub whole-done : WholeIs c seed scheme m z o m2 z2 o1 calls
+        pub whole-done : WholeIs c seed want m z o m2 z2 o1 calls
         whole-done = record {
           material-left =
-              body .material-left
+              done .material-left
               ∙ rw header-is
-              (over-over (material (garblingOf c seed scheme)) m (header (garblingOf c seed scheme)) (omega (arith, header-long, header-within)) (omega (arith, material-long, start .file-room)));
+              (over-over (material (garblingOf c seed want)) m (header (garblingOf c seed want)) (omega (arith, header-long, header-within)) (omega (arith, material-long, start .file-room)));
           zeros-left =
-              body .zeros-left
+              done .zeros-left
               ∙ rw zeros-are
-              (over-over (joinBlocks (zeroTokens (garblingOf c seed scheme))) z (joinBlocks (inputZeros (garblingOf c seed scheme))) (omega (arith, inputs-long, zeros-long)) (omega (arith, zeros-long, start .wires-room)));
+              (over-over (joinBlocks (zeroTokens (garblingOf c seed want))) z (joinBlocks (inputZeros (garblingOf c seed want))) (omega (arith, inputs-long, zeros-long)) (omega (arith, zeros-long, start .wires-room)));
           ones-left = ones-are;
-          calls-made = body .calls-made;
+          calls-made = done .calls-made;
         }

@@ -4,32 +4,50 @@ use mathlib.Core.Path.{_≡_}
 use mathlib.Core.List.{List, [], _∷_, _++_}
 use lib.ListN.{length, take}
 use Rattle.model.specs.declared.Sizes.{Sizes}
+use Rattle.model.specs.declared.Wanted.{Wanted}
 use Rattle.model.specs.Bytes.{tabulate, over, put, two}
 use Rattle.model.specs.Circuit.{charged, charge, charges, kindOf, circuitOf, inputs, outputs, gates, gateAt, gateWire, wires}
-use Rattle.model.specs.Aes.{Block, block, cipher, keyExpansion}
-use Rattle.model.specs.Tokens.{garblingOf, offset, inputZeros}
+use Rattle.model.specs.Aes.{Block, block, cipher, keyExpansion, aes}
+use Rattle.model.specs.Tokens.{garblingOf, coloured, inputZeros}
 use Rattle.model.specs.Scheme.{Site, recordLength}
 use Rattle.model.specs.Garbling.{Known, schemeOf, siteOf, zeroStep, zeroTokens}
 use Rattle.model.specs.Material.{joinBlocks, lastStart, materialLength, header, recordOf, records, material}
 use Rattle.model.specs.Evaluation.{tokenAt}
 use Rattle.model.specs.Calls.{garbleAsks, garbleCallsAt, garbleCalls}
 use Rattle.model.specs.Refusals.{fine, circuitVerdict}
-use Rattle.model.specs.Operations.{sizesOf}
+use Rattle.circuit.specs.Accepted.{Accepted}
 use Rattle.garble.specs.Written.{InputsIs}
 use Rattle.scheme.specs.declared.GarbledGate.{GarbledGate}
-use Rattle.garble.specs.declared.records.GateIn.{GateIn}
+use Rattle.garble.specs.declared.plan.Plan.{Plan}
+use Rattle.garble.specs.declared.gate.GateIn.{GateIn}
 
--- the zero tokens after k gates
-unfoldable pub zerosTo : List ℕ → List ℕ → ℕ → ℕ → List Block
-zerosTo c seed scheme k = wires (zeroStep (garblingOf c seed scheme)) (tabulate k (gateAt c)) (inputZeros (garblingOf c seed scheme))
+-- ---- the plan
+
+-- p is made for a seed, for what is wanted of it, and for a circuit of n inputs
+pub record PlanIs (seed : Block) (want : Wanted) (n : ℕ) (p : Plan) : Type 0 where
+  pub is-wanted : p .wanted ≡ want
+  pub is-seed : p .seed .bytes ≡ seed
+  pub is-stored : p .stored ≡ schemeOf (want .scheme) .stored
+  pub is-stride : p .stride ≡ recordLength (schemeOf (want .scheme))
+  pub is-n : p .n ≡ n
+  pub is-offset : p .r .bytes ≡ coloured (aes seed (block 0))
+
+-- the garbling that the walk is of: an accepted circuit, the plan for it, and the schedule w of the seed
+pub record WalkOf (c seed : List ℕ) (want : Wanted) (p : Plan) (w : List ℕ) : Type 0 where
+  pub accepted : circuitVerdict c ≡ fine
+  pub known : Known (want .scheme)
+  pub plan-is : PlanIs seed want (inputs c) p
+  pub is-schedule : w ≡ keyExpansion seed
+
+-- ---- a charged gate
 
 -- a charged gate's record: its head, and its first rows
 unfoldable pub recordBytes : ℕ → ℕ → GarbledGate → List ℕ
 recordBytes own stored g =
     0x47 ∷ 0x54 ∷ two own ++ joinBlocks (take stored (g .row0 .bytes ∷ g .row1 .bytes ∷ g .row2 .bytes ∷ g .row3 .bytes ∷ []))
 
--- room for a record of 2 to 4 rows
-pub record RecordRoom (at stored : ℕ) (m : List ℕ) : Type 0 where
+-- room for what writes a record of 2 to 4 rows
+pub record WriterRoom (at stored : ℕ) (m : List ℕ) : Type 0 where
   pub low : 2 ≤ stored
   pub high : stored ≤ 4
   pub room : at + 4 + 16 * stored ≤ length m
@@ -38,9 +56,9 @@ pub record RecordRoom (at stored : ℕ) (m : List ℕ) : Type 0 where
 pub record FreshIs (w : List ℕ) (scheme g : ℕ) (r : Block) : Type 0 where
   pub if-gax : scheme ≡ 1 → r ≡ cipher w (block g)
 
--- what garbling knows at a gate of wire g, under the seed's schedule w
-unfoldable pub siteAt : List ℕ → Block → ℕ → ℕ → Block → Block → Site
-siteAt w R g code xa xb = record { R = R; fresh = cipher w (block g); g = g; code = code; Xa = xa; Xb = xb }
+-- what garbling knows at a gate as it was read, under the seed's schedule w and the offset R
+unfoldable pub siteAt : List ℕ → Block → GateIn → Site
+siteAt w R g = record { R = R; fresh = cipher w (block (g .own .0)); g = g .own .0; code = g .code; Xa = g .xa .bytes; Xb = g .xb .bytes }
 
 -- a charged gate, of the pair u, v with its own value x; room for its record and its zero token
 pub record ChargedStart (scheme stored code u v x : ℕ) (m : List ℕ) (at : ℕ) (z : List ℕ) (slot : ℕ) : Type 0 where
@@ -56,14 +74,7 @@ pub record ChargedIs (scheme : ℕ) (s : Site) (m : List ℕ) (at : ℕ) (z : Li
   pub material-left : m′ ≡ put m at (0x47 ∷ 0x54 ∷ two (s .g) ++ joinBlocks (schemeOf scheme .rows s))
   pub calls-made : calls ≡ length (garbleAsks scheme s)
 
--- the garbling that the walk is of: n inputs, r rows for a charged gate, the offset R, and the schedule w of the seed
-pub record WalkOf (c seed : List ℕ) (scheme n r : ℕ) (R : Block) (w : List ℕ) : Type 0 where
-  pub accepted : circuitVerdict c ≡ fine
-  pub known : Known scheme
-  pub is-n : n ≡ inputs c
-  pub is-rows : r ≡ schemeOf scheme .stored
-  pub is-offset : R ≡ offset (garblingOf c seed scheme)
-  pub is-schedule : w ≡ keyExpansion seed
+-- ---- a gate
 
 -- gate k of an accepted circuit of n inputs, and room for the tokens of all wires before it
 pub record OperandsStart (c : List ℕ) (n k : ℕ) (z : List ℕ) : Type 0 where
@@ -79,41 +90,44 @@ pub record GateInIs (c : List ℕ) (n k : ℕ) (z : List ℕ) (g : GateIn) : Typ
   pub is-xa : g .xa .bytes ≡ tokenAt z (gateAt c k .a .0)
   pub is-xb : g .xb .bytes ≡ tokenAt z (gateAt c k .b .0)
 
+-- the zero tokens after k gates
+unfoldable pub zerosTo : List ℕ → List ℕ → Wanted → ℕ → List Block
+zerosTo c seed want k = wires (zeroStep (garblingOf c seed want)) (tabulate k (gateAt c)) (inputZeros (garblingOf c seed want))
+
 -- gate k comes next, its record at `at`: m and z are the material and the zero tokens so far
-pub record StepStart (c seed : List ℕ) (scheme k at : ℕ) (m z : List ℕ) : Type 0 where
+pub record StepStart (c seed : List ℕ) (want : Wanted) (k at : ℕ) (m z : List ℕ) : Type 0 where
   pub more : k < gates c
-  pub is-at : at ≡ lastStart scheme (charges (tabulate k (gateAt c)))
-  pub file-room : materialLength scheme (outputs c) (charges (circuitOf c .gates)) ≤ length m
+  pub is-at : at ≡ lastStart (want .scheme) (charges (tabulate k (gateAt c)))
+  pub file-room : materialLength (want .scheme) (outputs c) (charges (circuitOf c .gates)) ≤ length m
   pub wires-room : 16 * (inputs c + gates c) ≤ length z
-  pub so-far : take (16 * (inputs c + k)) z ≡ joinBlocks (zerosTo c seed scheme k)
+  pub so-far : take (16 * (inputs c + k)) z ≡ joinBlocks (zerosTo c seed want k)
 
 -- what gate k leaves: m′ and z′ at exit, the place of the next record, and the calls of π made
-pub record StepIs (c seed : List ℕ) (scheme k at : ℕ) (m z : List ℕ) (next calls : ℕ) (m′ z′ : List ℕ) : Type 0 where
-  pub zeros-left : z′ ≡ put z (16 * (inputs c + k)) (zeroStep (garblingOf c seed scheme) (zerosTo c seed scheme k) (gateAt c k))
-  pub material-left : m′ ≡ put m at (recordOf (garblingOf c seed scheme) (kindOf (gateAt c k .code)) (siteOf (garblingOf c seed scheme) (zerosTo c seed scheme k) (gateAt c k)))
-  pub is-next : next ≡ at + charge (kindOf (gateAt c k .code)) * recordLength (schemeOf scheme)
-  pub calls-made : calls ≡ garbleCallsAt (garblingOf c seed scheme) (kindOf (gateAt c k .code)) (siteOf (garblingOf c seed scheme) (zerosTo c seed scheme k) (gateAt c k))
+pub record StepIs (c seed : List ℕ) (want : Wanted) (k at : ℕ) (m z : List ℕ) (next calls : ℕ) (m′ z′ : List ℕ) : Type 0 where
+  pub zeros-left : z′ ≡ put z (16 * (inputs c + k)) (zeroStep (garblingOf c seed want) (zerosTo c seed want k) (gateAt c k))
+  pub material-left : m′ ≡ put m at (recordOf (garblingOf c seed want) (kindOf (gateAt c k .code)) (siteOf (garblingOf c seed want) (zerosTo c seed want k) (gateAt c k)))
+  pub is-next : next ≡ at + charge (kindOf (gateAt c k .code)) * recordLength (schemeOf (want .scheme))
+  pub calls-made : calls ≡ garbleCallsAt (garblingOf c seed want) (kindOf (gateAt c k .code)) (siteOf (garblingOf c seed want) (zerosTo c seed want k) (gateAt c k))
 
 -- before the first gate: the header and the inputs' zero tokens stand at the front of m and z
-pub record GatesStart (c seed : List ℕ) (scheme q : ℕ) (m z : List ℕ) : Type 0 where
+pub record GatesStart (c seed : List ℕ) (want : Wanted) (q : ℕ) (m z : List ℕ) : Type 0 where
   pub is-q : q ≡ gates c
-  pub file-room : materialLength scheme (outputs c) (charges (circuitOf c .gates)) ≤ length m
+  pub file-room : materialLength (want .scheme) (outputs c) (charges (circuitOf c .gates)) ≤ length m
   pub wires-room : 16 * (inputs c + gates c) ≤ length z
-  pub header-front : take 9 m ≡ header (garblingOf c seed scheme)
-  pub inputs-front : take (16 * inputs c) z ≡ joinBlocks (inputZeros (garblingOf c seed scheme))
+  pub header-front : take 9 m ≡ header (garblingOf c seed want)
+  pub inputs-front : take (16 * inputs c) z ≡ joinBlocks (inputZeros (garblingOf c seed want))
 
 -- after the last: the records follow the header, and the gates' zero tokens the inputs'
-pub record GatesIs (c seed : List ℕ) (scheme : ℕ) (m z m′ z′ : List ℕ) (calls : ℕ) : Type 0 where
-  pub zeros-left : z′ ≡ over (joinBlocks (zeroTokens (garblingOf c seed scheme))) z
-  pub material-left : m′ ≡ over (header (garblingOf c seed scheme) ++ records (garblingOf c seed scheme) (circuitOf c .gates) (inputZeros (garblingOf c seed scheme))) m
-  pub calls-made : calls ≡ garbleCalls (garblingOf c seed scheme) (circuitOf c .gates) (inputZeros (garblingOf c seed scheme))
+pub record GatesIs (c seed : List ℕ) (want : Wanted) (m z m′ z′ : List ℕ) (calls : ℕ) : Type 0 where
+  pub zeros-left : z′ ≡ over (joinBlocks (zeroTokens (garblingOf c seed want))) z
+  pub material-left : m′ ≡ over (header (garblingOf c seed want) ++ records (garblingOf c seed want) (circuitOf c .gates) (inputZeros (garblingOf c seed want))) m
+  pub calls-made : calls ≡ garbleCalls (garblingOf c seed want) (circuitOf c .gates) (inputZeros (garblingOf c seed want))
 
 -- ---- the last record
 
 -- an accepted circuit of sizes s, the tokens z of all its wires, and room for a colour of each output
 pub record ColoursStart (c : List ℕ) (s : Sizes) (z f : List ℕ) (at : ℕ) : Type 0 where
-  pub accepted : circuitVerdict c ≡ fine
-  pub sizes : s ≡ sizesOf c
+  pub sized : Accepted c s
   pub tokens : 16 * (inputs c + gates c) ≤ length z
   pub room : at + s .m ≤ length f
 
@@ -130,11 +144,11 @@ pub record FrontIs (w : List ℕ) (R : Block) (scheme n outs q : ℕ) (m z o m�
 
 -- ---- the gates and the last record
 
-pub record BodyStart (c seed : List ℕ) (scheme : ℕ) (s : Sizes) (m z : List ℕ) : Type 0 where
-  pub sizes : s ≡ sizesOf c
-  pub gates-start : GatesStart c seed scheme (s .q) m z
+pub record BodyStart (c seed : List ℕ) (want : Wanted) (s : Sizes) (m z : List ℕ) : Type 0 where
+  pub sized : Accepted c s
+  pub gates-start : GatesStart c seed want (s .q) m z
 
-pub record BodyIs (c seed : List ℕ) (scheme : ℕ) (m z m′ z′ : List ℕ) (calls : ℕ) : Type 0 where
-  pub zeros-left : z′ ≡ over (joinBlocks (zeroTokens (garblingOf c seed scheme))) z
-  pub material-left : m′ ≡ over (material (garblingOf c seed scheme)) m
-  pub calls-made : calls ≡ garbleCalls (garblingOf c seed scheme) (circuitOf c .gates) (inputZeros (garblingOf c seed scheme))
+pub record BodyIs (c seed : List ℕ) (want : Wanted) (m z m′ z′ : List ℕ) (calls : ℕ) : Type 0 where
+  pub zeros-left : z′ ≡ over (joinBlocks (zeroTokens (garblingOf c seed want))) z
+  pub material-left : m′ ≡ over (material (garblingOf c seed want)) m
+  pub calls-made : calls ≡ garbleCalls (garblingOf c seed want) (circuitOf c .gates) (inputZeros (garblingOf c seed want))

@@ -20,8 +20,8 @@ pub record InputsIs (w : List ℕ) (R : Block) (n : ℕ) (z o z′ o′ : List �
 -- ---- encoding
 
 -- the token of input i, from 0, for a value
-unfoldable pub tokenOf : ℕ → List ℕ → List ℕ → ℕ → Block
-tokenOf value z o i = getD (take 16 (drop (16 * i) z) ∷ take 16 (drop (16 * i) o) ∷ []) value (block 0)
+unfoldable pub inputToken : ℕ → List ℕ → List ℕ → ℕ → Block
+inputToken value z o i = getD (take 16 (drop (16 * i) z) ∷ take 16 (drop (16 * i) o) ∷ []) value (block 0)
 
 pub record TokenRoom (value : ℕ) (z o : List ℕ) (i : ℕ) : Type 0 where
   pub bit : value ≤ 1

@@ -6,7 +6,7 @@ ghost use Rattle.model.specs.Bytes.{over};
 ghost use Rattle.model.specs.Aes.{block};
 ghost use Rattle.model.specs.Material.{joinBlocks};
 ghost use Rattle.model.specs.Evaluation.{cut, encode};
-ghost use Rattle.garble.specs.Written.{TokenRoom, tokenOf, EncodeStart};
+ghost use Rattle.garble.specs.Written.{TokenRoom, inputToken, EncodeStart};
 use block::Block;
 use block::load;
 use block::store;
@@ -15,7 +15,7 @@ use model::Truth;
 // The token of input i, from 0, in the zero list for value 0, in the one list for value 1.
 fn input_token(value: Truth, zeros: &[u8], ones: &[u8], i: usize) -> Block
     requires { ⌜ TokenRoom (value .0) (now zeros) (now ones) i ⌝ }
-    ensures { λ r. ⌜ r .bytes ≡ tokenOf (value .0) (now (zeros .entry)) (now (ones .entry)) i ⌝ }
+    ensures { λ r. ⌜ r .bytes ≡ inputToken (value .0) (now (zeros .entry)) (now (ones .entry)) i ⌝ }
 {
     let at = 16 * i;
     if value.0 == 0 {

@@ -14,11 +14,14 @@ use model::Garbled;
 use model::Ran;
 use model::Refusal;
 use model::Truth;
+use model::Wanted;
 use model::Wire;
 
 pub mod arguments;
+pub mod gate;
 pub mod inputs;
 pub mod last;
+pub mod plan;
 pub mod records;
 pub mod seed;
 pub mod walk;
@@ -29,22 +32,29 @@ pub mod whole;
 pub fn garble(
     circuit: &[u8],
     seed: &[u8],
-    scheme: u8,
+    wanted: Wanted,
     material: &mut [u8],
     zeros: &mut [u8],
     ones: &mut [u8],
 ) -> Garbled
-    ensures { λ r. ⌜ GarbleIs (now (circuit .entry)) (now (seed .entry)) scheme (now (material .entry)) (now (zeros .entry)) (now (ones .entry)) (garbledOf r) (now (material .exit)) (now (zeros .exit)) (now (ones .exit)) ⌝ }
+    ensures { λ r. ⌜ GarbleIs (now (circuit .entry)) (now (seed .entry)) wanted (now (material .entry)) (now (zeros .entry)) (now (ones .entry)) (garbledOf r) (now (material .exit)) (now (zeros .exit)) (now (ones .exit)) ⌝ }
 {
     match check(circuit) {
         Checked::Refused(f) => Garbled::Refused(f),
         Checked::Accepted(z) => {
-            match garble_arguments(z, seed, scheme, material.len(), zeros.len(), ones.len()) {
+            match garble_arguments(
+                z,
+                seed,
+                wanted.scheme,
+                material.len(),
+                zeros.len(),
+                ones.len(),
+            ) {
                 Ran::Refused(f) => Garbled::Refused(f),
                 Ran::Done => {
-                    let calls = garble_whole(circuit, seed, scheme, z, material, zeros, ones);
+                    let calls = garble_whole(circuit, seed, wanted, z, material, zeros, ones);
                     Garbled::Done {
-                        length: material_length(scheme, z.m, z.p),
+                        length: material_length(wanted.scheme, z.m, z.p),
                         calls,
                     }
                 }

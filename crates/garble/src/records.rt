@@ -3,20 +3,19 @@ ghost use mathlib.Core.Path.{_≡_};
 ghost use Rattle.model.specs.Bytes.{put};
 ghost use Rattle.aes.specs.Tables.{IsTTables};
 ghost use Rattle.model.specs.Aes.{keyExpansion, fixedKey};
-ghost use Rattle.garble.specs.Walk.{RecordRoom, recordBytes, FreshIs, siteAt, ChargedStart, ChargedIs};
-use crate::seed::seed_block_fast;
-use block::Block;
+ghost use Rattle.garble.specs.Walk.{WriterRoom, recordBytes, siteAt, ChargedStart, ChargedIs};
+use crate::gate::GateIn;
+use crate::gate::make_charged;
+use crate::plan::Plan;
 use block::store;
 use material::writers::write_record_head;
 use model::Truth;
 use model::Wire;
 use scheme::GarbledGate;
-use scheme::Site;
-use scheme::garble_gate;
 
 // The record of a charged gate with two rows: mark 47 54, its wire number, and the rows.
 fn write_two(material: &mut [u8], at: usize, own: Wire, g: GarbledGate)
-    requires { ⌜ RecordRoom at 2 (now material) ⌝ }
+    requires { ⌜ WriterRoom at 2 (now material) ⌝ }
     ensures { λ _. ⌜ now (material .exit) ≡ put (now (material .entry)) at (recordBytes (own .0) 2 g) ⌝ }
 {
     write_record_head(material, at, own);
@@ -26,7 +25,7 @@ fn write_two(material: &mut [u8], at: usize, own: Wire, g: GarbledGate)
 
 // The same with three rows.
 fn write_three(material: &mut [u8], at: usize, own: Wire, g: GarbledGate)
-    requires { ⌜ RecordRoom at 3 (now material) ⌝ }
+    requires { ⌜ WriterRoom at 3 (now material) ⌝ }
     ensures { λ _. ⌜ now (material .exit) ≡ put (now (material .entry)) at (recordBytes (own .0) 3 g) ⌝ }
 {
     write_two(material, at, own, g);
@@ -35,7 +34,7 @@ fn write_three(material: &mut [u8], at: usize, own: Wire, g: GarbledGate)
 
 // The same with four.
 fn write_four(material: &mut [u8], at: usize, own: Wire, g: GarbledGate)
-    requires { ⌜ RecordRoom at 4 (now material) ⌝ }
+    requires { ⌜ WriterRoom at 4 (now material) ⌝ }
     ensures { λ _. ⌜ now (material .exit) ≡ put (now (material .entry)) at (recordBytes (own .0) 4 g) ⌝ }
 {
     write_three(material, at, own, g);
@@ -44,7 +43,7 @@ fn write_four(material: &mut [u8], at: usize, own: Wire, g: GarbledGate)
 
 // The record of a charged gate, with as many rows as its scheme stores.
 pub fn write_record(material: &mut [u8], at: usize, own: Wire, stored: usize, g: GarbledGate)
-    requires { ⌜ RecordRoom at stored (now material) ⌝ }
+    requires { ⌜ WriterRoom at stored (now material) ⌝ }
     ensures { λ _. ⌜ now (material .exit) ≡ put (now (material .entry)) at (recordBytes (own .0) stored g) ⌝ }
 {
     if stored == 2 {
@@ -56,34 +55,6 @@ pub fn write_record(material: &mut [u8], at: usize, own: Wire, stored: usize, g:
         return;
     }
     write_four(material, at, own, g);
-}
-
-// What scheme 1 takes for a gate's zero token: AES under the seed of block g. The other schemes make the token themselves.
-fn fresh_block(m: &[u32; 1024], ws: &[u8; 176], scheme: u8, own: Wire) -> Block
-    requires { ⌜ IsTTables (now m) ⌝ }
-    ensures { λ r. ⌜ FreshIs (now (ws .entry)) scheme (own .0) (r .bytes) ⌝ }
-{
-    if scheme == 1 {
-        seed_block_fast(m, ws, own.0 as usize)
-    } else {
-        Block::of_number(0)
-    }
-}
-
-// What the walk over the gates goes by: the scheme, how many rows it stores, the inputs, and the offset R.
-pub struct Plan {
-    pub scheme: u8,
-    pub stored: usize,
-    pub n: usize,
-    pub r: Block,
-}
-
-// A gate as it was read: its code, its own wire, and the zero tokens of its operands.
-pub struct GateIn {
-    pub code: u8,
-    pub own: Wire,
-    pub xa: Block,
-    pub xb: Block,
 }
 
 // A charged gate: its zero token goes to a slot of the zeros, its record to a place in the material. Answers the calls of π made.
@@ -103,24 +74,11 @@ pub fn garble_charged(
 ) -> usize
     requires { ⌜ IsTTables (now m) ⌝ }
     requires { ⌜ now w ≡ keyExpansion fixedKey ⌝ }
-    requires { ⌜ ChargedStart (plan .scheme) (plan .stored) (g .code) (u .0) (v .0) (own .0) (now material) at (now zeros) slot ⌝ }
-    ensures { λ r. ⌜ ChargedIs (plan .scheme) (siteAt (now (ws .entry)) (plan .r .bytes) (g .own .0) (g .code) (g .xa .bytes) (g .xb .bytes)) (now (material .entry)) at (now (zeros .entry)) slot (now (material .exit)) (now (zeros .exit)) r ⌝ }
+    requires { ⌜ ChargedStart (plan .wanted .scheme) (plan .stored) (g .code) (u .0) (v .0) (own .0) (now material) at (now zeros) slot ⌝ }
+    ensures { λ r. ⌜ ChargedIs (plan .wanted .scheme) (siteAt (now (ws .entry)) (plan .r .bytes) g) (now (material .entry)) at (now (zeros .entry)) slot (now (material .exit)) (now (zeros .exit)) r ⌝ }
 {
-    let scheme = plan.scheme;
     let wire = g.own;
-    let r = plan.r;
-    let xa = g.xa;
-    let xb = g.xb;
-    let fresh = fresh_block(m, ws, scheme, wire);
-    let site = Site {
-        r,
-        fresh,
-        g: wire,
-        code: g.code,
-        xa,
-        xb,
-    };
-    let made = garble_gate(m, w, scheme, site, u, v, own);
+    let made = make_charged(m, w, ws, plan, g, u, v, own);
     store(zeros, slot, made.zero);
     write_record(material, at, wire, plan.stored, made);
     made.calls

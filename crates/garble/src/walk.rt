@@ -3,20 +3,19 @@ ghost use mathlib.Core.Path.{_≡_};
 ghost use Rattle.aes.specs.Tables.{IsTTables};
 ghost use Rattle.model.specs.Aes.{keyExpansion, fixedKey};
 ghost use Rattle.garble.specs.Walk.{OperandsStart, GateInIs, WalkOf, StepStart, StepIs, GatesStart, GatesIs};
-use crate::records::GateIn;
-use crate::records::Plan;
+use crate::gate::GateIn;
+use crate::plan::Plan;
 use crate::records::garble_charged;
 use block::load;
 use block::store;
 use circuit::code::code_kind;
 use circuit::gates::gate_at;
-use material::record_length;
 use model::Kind;
 use model::Wire;
 use scheme::free_zero;
 
 // Gate k, from 0, with the zero tokens of its operands.
-fn read_operands(circuit: &[u8], n: usize, k: usize, zeros: &[u8]) -> GateIn
+pub fn read_operands(circuit: &[u8], n: usize, k: usize, zeros: &[u8]) -> GateIn
     requires { ⌜ OperandsStart (now circuit) n k (now zeros) ⌝ }
     ensures { λ r. ⌜ GateInIs (now (circuit .entry)) n k (now (zeros .entry)) r ⌝ }
 {
@@ -40,12 +39,10 @@ pub struct Stepped {
 }
 
 // One gate: what it adds to the zeros and to the material, at a place. A free gate makes no call of π.
-// The seed is lent for the contract alone: ws is its schedule.
 pub fn garble_step(
     m: &[u32; 1024],
     w: &[u8; 176],
     ws: &[u8; 176],
-    seed: &[u8],
     plan: Plan,
     circuit: &[u8],
     k: usize,
@@ -55,9 +52,9 @@ pub fn garble_step(
 ) -> Stepped
     requires { ⌜ IsTTables (now m) ⌝ }
     requires { ⌜ now w ≡ keyExpansion fixedKey ⌝ }
-    requires { ⌜ WalkOf (now circuit) (now seed) (plan .scheme) (plan .n) (plan .stored) (plan .r .bytes) (now ws) ⌝ }
-    requires { ⌜ StepStart (now circuit) (now seed) (plan .scheme) k at (now material) (now zeros) ⌝ }
-    ensures { λ r. ⌜ StepIs (now (circuit .entry)) (now (seed .entry)) (plan .scheme) k at (now (material .entry)) (now (zeros .entry)) (r .at) (r .calls) (now (material .exit)) (now (zeros .exit)) ⌝ }
+    requires { ⌜ WalkOf (now circuit) (plan .seed .bytes) (plan .wanted) plan (now ws) ⌝ }
+    requires { ⌜ StepStart (now circuit) (plan .seed .bytes) (plan .wanted) k at (now material) (now zeros) ⌝ }
+    ensures { λ r. ⌜ StepIs (now (circuit .entry)) (plan .seed .bytes) (plan .wanted) k at (now (material .entry)) (now (zeros .entry)) (r .at) (r .calls) (now (material .exit)) (now (zeros .exit)) ⌝ }
 {
     let n = plan.n;
     let g = read_operands(circuit, n, k, zeros);
@@ -65,7 +62,7 @@ pub fn garble_step(
     match code_kind(g.code) {
         Kind::Charged(u, v, own) => {
             let calls = garble_charged(m, w, ws, plan, g, u, v, own, material, at, zeros, slot);
-            let at = at + record_length(plan.scheme);
+            let at = at + plan.stride;
             Stepped { at, calls }
         }
         Kind::Free { p, q, c } => {
@@ -81,7 +78,6 @@ pub fn garble_gates(
     m: &[u32; 1024],
     w: &[u8; 176],
     ws: &[u8; 176],
-    seed: &[u8],
     plan: Plan,
     circuit: &[u8],
     q: usize,
@@ -90,15 +86,15 @@ pub fn garble_gates(
 ) -> usize
     requires { ⌜ IsTTables (now m) ⌝ }
     requires { ⌜ now w ≡ keyExpansion fixedKey ⌝ }
-    requires { ⌜ WalkOf (now circuit) (now seed) (plan .scheme) (plan .n) (plan .stored) (plan .r .bytes) (now ws) ⌝ }
-    requires { ⌜ GatesStart (now circuit) (now seed) (plan .scheme) q (now material) (now zeros) ⌝ }
-    ensures { λ r. ⌜ GatesIs (now (circuit .entry)) (now (seed .entry)) (plan .scheme) (now (material .entry)) (now (zeros .entry)) (now (material .exit)) (now (zeros .exit)) r ⌝ }
+    requires { ⌜ WalkOf (now circuit) (plan .seed .bytes) (plan .wanted) plan (now ws) ⌝ }
+    requires { ⌜ GatesStart (now circuit) (plan .seed .bytes) (plan .wanted) q (now material) (now zeros) ⌝ }
+    ensures { λ r. ⌜ GatesIs (now (circuit .entry)) (plan .seed .bytes) (plan .wanted) (now (material .entry)) (now (zeros .entry)) (now (material .exit)) (now (zeros .exit)) r ⌝ }
 {
     let mut k: usize = 0;
     let mut at: usize = 9;
     let mut calls: usize = 0;
     while k < q {
-        let step = garble_step(m, w, ws, seed, plan, circuit, k, material, at, zeros);
+        let step = garble_step(m, w, ws, plan, circuit, k, material, at, zeros);
         at = step.at;
         calls += step.calls;
         k += 1;

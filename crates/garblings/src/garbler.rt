@@ -3,6 +3,7 @@ use cases::answer::garbled;
 use cases::answer::room_at;
 use cases::fill::left;
 use cases::room;
+use model::Wanted;
 
 // Garble on three buffers: the answer, and what each buffer holds after it.
 fn garble_leaves(
@@ -18,7 +19,7 @@ fn garble_leaves(
     y: &mut [u8],
     z: &mut [u8],
 ) -> bool {
-    let g = garble::garble(circuit, seed, scheme, x, y, z);
+    let g = garble::garble(circuit, seed, Wanted { scheme }, x, y, z);
     let x_left = left(answer, before, material, x);
     let y_left = left(answer, before, zeros, y);
     let z_left = left(answer, before, ones, z);

@@ -13,6 +13,7 @@ use cases::fill::filled;
 use cases::room;
 use check::same;
 use model::Garbled;
+use model::Wanted;
 
 // What the buffers hold before the call.
 const BEFORE: u8 = 0xA5;
@@ -68,7 +69,7 @@ fn garble_made(case: &[u8; 86], circuit: &[u8]) -> bool {
     let g = garble::garble(
         circuit,
         &seed,
-        case[28],
+        Wanted { scheme: case[28] },
         &mut material,
         &mut zeros,
         &mut ones,

@@ -8,6 +8,7 @@ use cases::answer::room_at;
 use cases::room;
 use chain::Chained;
 use check::same;
+use model::Wanted;
 
 // Whether an answer is that of the chain.
 fn chained(c: Chained, answer: &[u8]) -> bool {
@@ -39,7 +40,7 @@ fn chain_leaves(
     let c = chain::chain(
         circuit,
         seed,
-        scheme,
+        Wanted { scheme },
         values,
         material,
         zeros,

@@ -1,14 +1,20 @@
 -- What a caller has: a law for each case of each operation's answer. Assumes nothing.
 use Prim.Native.Nat.{ℕ}
-use mathlib.Core.Path.{_≡_, sym, ap, _∙_}
+use mathlib.Core.Path.{_≡_, refl, sym, ap, _∙_}
 use mathlib.Core.List.{List, [], _∷_}
 use Rattle.model.specs.declared.Checked.{Checked}
 use Rattle.model.specs.declared.Garbled.{Garbled}
 use Rattle.model.specs.declared.Refusal.{Refusal}
 use Rattle.model.specs.declared.Sizes.{Sizes}
+use Rattle.model.specs.Circuit.{circuitOf}
+use Rattle.model.specs.Tokens.{garblingOf}
 use Rattle.model.specs.Refusals.{Verdict, verdictOf}
 use Rattle.model.specs.Operations.{Answer, Made, checkedOf, garbledOf}
 use Rattle.weighhare.specs.Out.{Out, out, verdictOut, sizesOut, madeOut, callsOut, Handed}
+
+-- what a scheme byte asks for is the garbling by that scheme
+wanted-scheme : (c seed : List ℕ) (k : ℕ) → garblingOf c seed (record { scheme = k }) ≡ record { circuit = circuitOf c; seed = seed; scheme = k }
+wanted-scheme c seed k = refl
 
 -- an operation's answer r is `of r` in the model's terms; it is the case k
 of-case : {R X : Type 0} (Is : X → Type 0) (of : R → X) (outOf : X → Out) (number : ℕ) (words : List ℕ) (r k : R)

@@ -12,6 +12,7 @@ use model::Checked;
 use model::Garbled;
 use model::Gate;
 use model::Ran;
+use model::Wanted;
 use model::Wire;
 
 pub mod answer;
@@ -52,9 +53,9 @@ pub extern "C" fn weighhare_garble(
     ones: &mut [u8],
     answer: &mut [u64; 4],
 ) -> u8
-    ensures { λ r. ⌜ Handed (λ x. GarbleIs (now (circuit .entry)) (now (seed .entry)) scheme (now (material .entry)) (now (zeros .entry)) (now (ones .entry)) x (now (material .exit)) (now (zeros .exit)) (now (ones .exit))) madeOut r (now (answer .exit)) ⌝ }
+    ensures { λ r. ⌜ Handed (λ x. GarbleIs (now (circuit .entry)) (now (seed .entry)) (record { scheme = scheme }) (now (material .entry)) (now (zeros .entry)) (now (ones .entry)) x (now (material .exit)) (now (zeros .exit)) (now (ones .exit))) madeOut r (now (answer .exit)) ⌝ }
 {
-    match garble::garble(circuit, seed, scheme, material, zeros, ones) {
+    match garble::garble(circuit, seed, Wanted { scheme }, material, zeros, ones) {
         Garbled::Refused(f) => refused(answer, f),
         Garbled::Done { length, calls } => results(answer, length, calls, 0, 0),
     }

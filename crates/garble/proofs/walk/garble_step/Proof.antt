@@ -1,41 +1,47 @@
 use borrow.Author.Needs.{needs}
-use native.Mathlib.Omega.{arith}
-use Rattle.garble.proofs.StepLaws.{step-operands, step-charged-start, step-charged, step-free-p, step-free-q, step-free-c, step-slot, step-free, step-refused, step-small}
+use Rattle.garble.proofs.StepLaws.{step-cases, step-next, step-charged, step-slot, step-free}
 use Rattle.garble.proofs.walk.garble_step.Statement.{statement}
 use Rattle.garble.proofs.walk.garble_step.Tie as tie
 
-garble-charged-requires : tie.Need-garble-charged-requires
-garble-charged-requires c κs =
-    let pre = c .before .before .before .before .before .before .before .before .before .before .before .before .pre in
-    (pre .0, (pre .1 .0, step-charged-start _ _ _ _ _ _ _ (c .before .before .before .before .before .before .before .before .before .before .before .before .pre .1 .1 .0) _ _ _ _ (c .before .before .before .before .before .before .before .before .before .before .before .before .pre .1 .1 .1) _ (c .before .before .before .before .before .before .read-operands .ensures) _ (c .before .before .before .before .before .code-kind .ensures) _ _ _ (c .before .before .before .u .given .1)))
-
 -- the place past the record
 next-fits : tie.Need-add-at
-next-fits c = omega (arith, step-small _ _ _ _ _ _ _ (c .before .before .before .before .before .before .before .before .before .before .before .before .before .before .before .before .before .before .pre .1 .1 .0) _ _ _ _ (c .before .before .before .before .before .before .before .before .before .before .before .before .before .before .before .before .before .before .pre .1 .1 .1), c .record-length .ensures .1)
+next-fits c =
+    let pre = c .before .before .before .before .before .before .before .before .before .before .before .before .before .before .before .before .before .pre in
+    step-next _ _ _ _ _ (pre .1 .1 .0) _ _ _ _ (pre .1 .1 .1)
 
 returns : tie.Need-returns
 returns c =
-    step-charged _ _ _ _ _ _ _ (c .before .before .before .before .before .before .before .before .before .before .before .before .before .before .before .before .before .before .pre .1 .1 .0) _ _ _ _ (c .before .before .before .before .before .before .before .before .before .before .before .before .before .before .before .before .before .before .pre .1 .1 .1) _ (c .before .before .before .before .before .before .before .before .before .before .before .before .read-operands .ensures) _ (c .before .before .before .before .before .before .before .before .before .before .before .code-kind .ensures) _ _ _ (c .before .before .before .before .before .before .before .before .before .u .given .1) _ (c .record-length .ensures .0) _ _ _ (c .before .before .before .before .before .garble-charged .ensures)
-
-free-zero-requires : tie.Need-free-zero-requires
-free-zero-requires c κs = (
-  step-free-p _ _ _ _ _ _ _ (c .before .before .before .before .before .before .before .before .before .before .before .pre .1 .1 .0) _ _ _ _ (c .before .before .before .before .before .before .before .before .before .before .before .pre .1 .1 .1) _ (c .before .before .before .before .before .read-operands .ensures) _ (c .before .before .before .before .code-kind .ensures) _ _ _ (c .before .before .p .given .1),
-  step-free-q _ _ _ _ _ _ _ (c .before .before .before .before .before .before .before .before .before .before .before .pre .1 .1 .0) _ _ _ _ (c .before .before .before .before .before .before .before .before .before .before .before .pre .1 .1 .1) _ (c .before .before .before .before .before .read-operands .ensures) _ (c .before .before .before .before .code-kind .ensures) _ _ _ (c .before .before .p .given .1),
-  step-free-c _ _ _ _ _ _ _ (c .before .before .before .before .before .before .before .before .before .before .before .pre .1 .1 .0) _ _ _ _ (c .before .before .before .before .before .before .before .before .before .before .before .pre .1 .1 .1) _ (c .before .before .before .before .before .read-operands .ensures) _ (c .before .before .before .before .code-kind .ensures) _ _ _ (c .before .before .p .given .1),
-)
+    let charged = c .before .before .before .before .before in
+    let told = charged .before .before .before .before in
+    let kind = told .before .before in
+    let read = kind .before in
+    let pre = read .before .before .before .before .before .pre in
+    step-charged _ _ _ _ _ (pre .1 .1 .0) _ _ _ _ (pre .1 .1 .1) _ (read .read-operands .ensures) _ (kind .code-kind .ensures) _ _ _ (told .u .given .1) _ _ _
+    (charged .garble-charged .ensures)
 
 store-requires : tie.Need-store-requires
-store-requires c κs = step-slot _ _ _ _ _ _ _ (c .before .before .before .before .before .before .before .before .before .before .before .before .pre .1 .1 .0) _ _ _ _ (c .before .before .before .before .before .before .before .before .before .before .before .before .pre .1 .1 .1) _ (c .before .before .before .before .before .before .read-operands .ensures) _ (c .before .before .before .before .before .code-kind .ensures) _ _ _ (c .before .before .before .p .given .1)
+store-requires c κs =
+    let told = c .before .before .before in
+    let kind = told .before .before in
+    let read = kind .before in
+    let pre = read .before .before .before .before .before .pre in
+    step-slot _ _ _ _ _ (pre .1 .1 .0) _ _ _ _ (pre .1 .1 .1) _ (read .read-operands .ensures) _ (kind .code-kind .ensures) _ _ _ (told .p .given .1)
 
 returns-2 : tie.Need-returns-2
-returns-2 c = step-free _ _ _ _ _ _ _ (c .before .before .before .before .before .before .before .before .before .before .before .before .before .before .before .pre .1 .1 .0) _ _ _ _ (c .before .before .before .before .before .before .before .before .before .before .before .before .before .before .before .pre .1 .1 .1) _ (c .before .before .before .before .before .before .before .before .before .read-operands .ensures) _ (c .before .before .before .before .before .before .before .before .code-kind .ensures) _ _ _ (c .before .before .before .before .before .before .p .given .1) _ _ (c .before .before .before .free-zero .ensures) (c .before .before .store .ensures)
-
-returns-3 : tie.Need-returns-3
-returns-3 c = step-refused _ _ _ _ _ _ _ (c .before .before .before .before .before .before .before .before .before .pre .1 .1 .0) _ _ _ _ (c .before .before .before .before .before .before .before .before .before .pre .1 .1 .1) _ (c .before .before .before .read-operands .ensures) _ (c .before .before .code-kind .ensures) (c .enum-told .given .1)
+returns-2 c =
+    let stored = c .before .before in
+    let told = stored .before .before .before .before in
+    let kind = told .before .before in
+    let read = kind .before in
+    let pre = read .before .before .before .before .before .pre in
+    step-free _ _ _ _ _ (pre .1 .1 .0) _ _ _ _ (pre .1 .1 .1) _ (read .read-operands .ensures) _ (kind .code-kind .ensures) _ _ _ (told .p .given .1) _ _
+    (stored .before .free-zero .ensures) (stored .store .ensures)
 
 pub garble-step-spec : {M : Type 1} → statement M
 garble-step-spec =
     tie.close
-    (tie.spec (λ c κs. search step-operands) (λ c. search needs) (λ c. search needs) (λ c κs. search needs) (λ c. search needs) garble-charged-requires
-    (λ c κs. search needs) next-fits (λ c. search needs) free-zero-requires store-requires (λ c. search needs)
-    (λ c. search needs) (λ c. search needs) returns (λ c. search needs) returns-2 (λ c. search needs) returns-3)
+    (tie.spec (λ c κs. search step-cases) (λ c. search needs) (λ c. search needs) (λ c κs. search needs) (λ c. search needs)
+    (λ c κs. (search needs, (search needs, search step-cases))) next-fits (λ c. search needs)
+    (λ c κs. (search step-cases, search step-cases, search step-cases)) store-requires (λ c. search needs)
+    (λ c. search needs) (λ c. search needs) returns (λ c. search needs) returns-2
+    (λ c. search needs) (λ c. search step-cases))

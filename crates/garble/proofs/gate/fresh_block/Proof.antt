@@ -1,7 +1,7 @@
 use borrow.Author.Needs.{needs}
 use Rattle.garble.proofs.ChargedLaws.{fresh-gax, fresh-other}
-use Rattle.garble.proofs.records.fresh_block.Statement.{statement}
-use Rattle.garble.proofs.records.fresh_block.Tie as tie
+use Rattle.garble.proofs.gate.fresh_block.Statement.{statement}
+use Rattle.garble.proofs.gate.fresh_block.Tie as tie
 
 pub fresh-block-spec : {M : Type 1} → statement M
 fresh-block-spec =

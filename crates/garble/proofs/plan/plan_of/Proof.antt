@@ -1,0 +1,26 @@
+use borrow.Author.Needs.{needs}
+use mathlib.Core.Path.{refl, ap, _∙_}
+use Rattle.model.specs.Aes.{block, cipher, aes}
+use Rattle.model.specs.Tokens.{coloured}
+use Rattle.garble.proofs.plan.plan_of.Statement.{statement}
+use Rattle.garble.proofs.plan.plan_of.Tie as tie
+
+returns : tie.Need-returns
+unfolding aes
+returns c =
+    let seed = c .before in
+    let stride = seed .before in
+    let rows = stride .before in
+    record {
+      is-wanted = refl;
+      is-seed = refl;
+      is-stored = rows .rows-stored .ensures .0;
+      is-stride = stride .record-length .ensures .0;
+      is-n = refl;
+      is-offset = c .coloured .ensures ∙ ap coloured (seed .seed-block .ensures ∙ ap (λ w. cipher w (block 0)) (rows .before .pre .1));
+    }
+
+pub plan-of-spec : {M : Type 1} → statement M
+plan-of-spec =
+    tie.close
+    (tie.spec (λ c κs. search needs) (λ c κs. search needs) (λ c κs. search needs) (λ c κs. search needs) returns)
