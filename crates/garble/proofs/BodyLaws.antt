@@ -3,35 +3,31 @@ use Prim.Native.Nat.{ℕ, _+_, _*_, _≤_}
 use native.Mathlib.Omega.{arith}
 use mathlib.Core.Path.{_≡_, ap, _∙_}
 use mathlib.Core.List.{List, _∷_, _++_, map}
-use lib.ListN.{length, length-append}
+use lib.ListN.{length}
 use Rattle.model.specs.declared.Sizes.{Sizes}
 use Rattle.model.specs.declared.Wanted.{Wanted}
-use Rattle.model.specs.Bytes.{tabulate, over, put}
-use Rattle.model.specs.Circuit.{charges, circuitOf, inputs, outputs, gates, gateAt, wire}
+use Rattle.model.specs.Bytes.{over, put}
+use Rattle.model.specs.Circuit.{circuitOf, inputs, outputs, gates, wire}
 use Rattle.model.specs.Aes.{block}
 use Rattle.model.specs.Tokens.{garblingOf, colour, inputZeros}
 use Rattle.model.specs.Garbling.{zeroTokens}
-use Rattle.model.specs.Material.{joinBlocks, lastStart, materialLength, header, records, lastRecord, material}
+use Rattle.model.specs.Material.{joinBlocks, lastStart, header, records, lastRecord, material}
 use Rattle.model.specs.Evaluation.{tokenAt}
-use Rattle.model.proofs.Lists.{tabulate-length}
 use Rattle.model.proofs.Places.{length-last}
 use Rattle.model.proofs.Buffers.{over-length, over-put}
-use Rattle.model.proofs.Blocks.{join-length, token-at-front}
+use Rattle.model.proofs.Blocks.{token-at-front}
 use Rattle.model.proofs.Outputs.{outputs-many}
 use Rattle.model.proofs.Accepted.{map-within, accepted-circuit}
-use Rattle.model.proofs.Lengths.{zero-tokens-blocks, header-length, records-length, last-length}
+use Rattle.model.proofs.Lengths.{zero-tokens-blocks, last-length}
 use Rattle.circuit.proofs.AcceptedLaws as Sized
 use Rattle.garble.specs.declared.plan.Plan.{Plan}
 use Rattle.garble.specs.Walk.{WalkOf, GatesIs, ColoursStart, BodyStart, BodyIs}
+use Rattle.garble.proofs.WalkLaws.{front-long, zeros-long}
 
 module _ (c seed : List ℕ) (want : Wanted) (plan : Plan) (w : List ℕ) (walk : WalkOf c seed want plan w)
     (s : Sizes) (m z : List ℕ) (start : BodyStart c seed want s m z) where
   is-m : s .m ≡ outputs c
   is-m = Sized.is-m c s (start .sized)
-
-  is-p : s .p ≡ charges (tabulate (gates c) (gateAt c))
-  unfolding circuitOf
-  is-p = Sized.is-p c s (start .sized)
 
   -- nothing overflows
   pub few-charged : s .p ≤ 65535
@@ -39,26 +35,19 @@ module _ (c seed : List ℕ) (want : Wanted) (plan : Plan) (w : List ℕ) (walk 
 
   -- ---- after the gates
   module _ (m1 z1 : List ℕ) (calls : ℕ) (done : GatesIs c seed want m z m1 z1 calls) where
-    so-many : length (joinBlocks (zeroTokens (garblingOf c seed want))) ≡ 16 * (inputs c + gates c)
-    unfolding circuitOf
-    so-many = join-length (rw tabulate-length at (zero-tokens-blocks (garblingOf c seed want)))
-
     zeros-same : length z1 ≡ length z
     zeros-same =
-        ap length (done .zeros-left) ∙ over-length (joinBlocks (zeroTokens (garblingOf c seed want))) z (omega (arith, so-many, start .gates-start .wires-room))
+        ap length (done .zeros-left) ∙ over-length (joinBlocks (zeroTokens (garblingOf c seed want))) z (omega (arith, zeros-long c seed want, start .gates-start .wires-room))
 
     so-far : List ℕ
     so-far = header (garblingOf c seed want) ++ records (garblingOf c seed want) (circuitOf c .gates) (inputZeros (garblingOf c seed want))
 
     so-long : length so-far ≡ lastStart (want .scheme) (s .p)
-    unfolding so-far circuitOf lastStart
-    so-long =
-        length-append (header (garblingOf c seed want)) _
-        ∙ rw (header-length (garblingOf c seed want), records-length (garblingOf c seed want) (tabulate (gates c) (gateAt c)) (inputZeros (garblingOf c seed want)), is-p)
+    unfolding so-far
+    so-long = front-long (garblingOf c seed want) (circuitOf c .gates) ∙ rw (Sized.is-p c s (start .sized))
 
     file-room : lastStart (want .scheme) (s .p) + 2 + s .m ≤ length m
-    unfolding circuitOf
-    file-room = rw (← length-last (want .scheme) (s .m) (s .p), is-m, is-p) (start .gates-start .file-room)
+    file-room = rw (← length-last (want .scheme) (s .m) (s .p), is-m, Sized.is-p c s (start .sized)) (start .gates-start .file-room)
 
     material-same : length m1 ≡ length m
     unfolding so-far
@@ -93,3 +82,5 @@ module _ (c seed : List ℕ) (want : Wanted) (plan : Plan) (w : List ℕ) (walk 
           (omega (arith, file-room, last-length (garblingOf c seed want), outputs-many c, is-m)));
       calls-made = done .calls-made;
     }
+
+pub ruleset body-cases = (few-charged, body-last, body-done)

@@ -41,20 +41,6 @@ not-refused : (k : Kind) → Used k → k ≡ refused → ⊥
 not-refused _ used-charged e = let z : _≡_ {A = ℕ} 0 1 = cc in omega arith
 not-refused _ used-free e = let z : _≡_ {A = ℕ} 0 1 = cc in omega arith
 
--- p, q and c of a free code are bits
-module _ (code p q c : ℕ) (e : kindOf code ≡ free p q c) where
-  table : FreeTable (value code) p q c
-  table = rw e at (code-means code)
-
-  pub free-p : p ≤ 1
-  free-p = bit-low (table .bit-p)
-
-  pub free-q : q ≤ 1
-  free-q = bit-low (table .bit-q)
-
-  pub free-c : c ≤ 1
-  free-c = bit-low (table .bit-c)
-
 module _ (c seed : List ℕ) (want : Wanted) (plan : Plan) (w : List ℕ) (walk : WalkOf c seed want plan w) where
   offset-is : plan .r .bytes ≡ offset (garblingOf c seed want)
   unfolding offset seedBlock
@@ -75,6 +61,9 @@ module _ (c seed : List ℕ) (want : Wanted) (plan : Plan) (w : List ℕ) (walk 
         let few : charges (tabulate k (gateAt c)) ≤ 65535 =
         omega (arith, charges-le (tabulate k (gateAt c)), tabulate-length k (gateAt c), start .more, accepted-header c (walk .accepted) .sizes .sum) in
         omega (arith, start .is-at, last-high (want .scheme) (charges (tabulate k (gateAt c))) few, walk .plan-is .is-stride, record-high (want .scheme))
+
+    pub step-slot : 16 * (plan .n + k) + 16 ≤ length z
+    step-slot = omega (arith, start .more, start .wires-room, walk .plan-is .is-n)
 
     holds : GateHolds (gateWire (inputs c) k) (gateAt c k)
     holds = accepted-gate c k (walk .accepted) (start .more)
@@ -123,7 +112,7 @@ module _ (c seed : List ℕ) (want : Wanted) (plan : Plan) (w : List ℕ) (walk 
             is-stored = walk .plan-is .is-stored;
             is-charged = ap kindOf (is-g .is-code) ∙ charged-is;
             record-room = room;
-            slot-room = omega (arith, start .more, start .wires-room, walk .plan-is .is-n);
+            slot-room = step-slot;
           }
 
           pub step-charged : (m′ z′ : List ℕ) (calls : ℕ)
@@ -141,17 +130,10 @@ module _ (c seed : List ℕ) (want : Wanted) (plan : Plan) (w : List ℕ) (walk 
           free-is : kindOf (gateAt c k .code) ≡ free (p .0) (q .0) (d .0)
           free-is = code-kind ∙ ap meaning e
 
-          pub step-free-p : p .0 ≤ 1
-          step-free-p = free-p _ _ _ _ free-is
-
-          pub step-free-q : q .0 ≤ 1
-          step-free-q = free-q _ _ _ _ free-is
-
-          pub step-free-c : d .0 ≤ 1
-          step-free-c = free-c _ _ _ _ free-is
-
-          pub step-slot : 16 * (plan .n + k) + 16 ≤ length z
-          step-slot = omega (arith, start .more, start .wires-room, walk .plan-is .is-n)
+          pub step-bits : (p .0 ≤ 1) × (q .0 ≤ 1) × (d .0 ≤ 1)
+          step-bits =
+              let t : FreeTable (value (gateAt c k .code)) (p .0) (q .0) (d .0) = rw free-is at (code-means (gateAt c k .code)) in
+              (bit-low (t .bit-p), bit-low (t .bit-q), bit-low (t .bit-c))
 
           pub step-free : (x z′ : List ℕ) → x ≡ freeZero (p .0) (q .0) (d .0) (plan .r .bytes) (g .xa .bytes) (g .xb .bytes) → z′ ≡ put z (16 * (plan .n + k)) x → StepIs c seed want k at m z at 0 m z′
           step-free x z′ is-x is-z = record {
@@ -165,4 +147,4 @@ module _ (c seed : List ℕ) (want : Wanted) (plan : Plan) (w : List ℕ) (walk 
         pub step-refused : kind ≡ Kinds.Kind.Refused → StepIs c seed want k at m z at 0 m z
         step-refused e = absurd (not-refused _ (holds .used) (code-kind ∙ ap meaning e))
 
-pub ruleset step-cases = (step-operands, step-next, step-charged-start, step-charged, step-free-p, step-free-q, step-free-c, step-slot, step-free, step-refused)
+pub ruleset step-cases = (step-operands, step-next, step-charged-start, step-charged, step-bits, step-slot, step-free, step-refused)

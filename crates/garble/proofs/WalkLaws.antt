@@ -8,11 +8,12 @@ use lib.ListN.{length, take, drop, length-append, take-append-drop}
 use lib.Seq.{take-at}
 use mir.Syntax.{w64}
 use mir.Val.{Fits}
+use Rattle.model.specs.declared.Gate.{Gate}
 use Rattle.model.specs.declared.Wanted.{Wanted}
 use Rattle.model.specs.Bytes.{tabulate, over}
 use Rattle.model.specs.Circuit.{kindOf, charge, charges, circuitOf, inputs, outputs, gates, gateAt, wires}
 use Rattle.model.specs.Aes.{Block}
-use Rattle.model.specs.Tokens.{garblingOf, inputZeros}
+use Rattle.model.specs.Tokens.{Garbling, garblingOf, inputZeros}
 use Rattle.model.specs.Scheme.{recordLength}
 use Rattle.model.specs.Garbling.{schemeOf, siteOf, zeroStep, zeroTokens}
 use Rattle.model.specs.Material.{joinBlocks, lastStart, header, recordOf, records}
@@ -22,7 +23,7 @@ use Rattle.model.proofs.Circuits.{charge-le, charges-le, wires-snoc}
 use Rattle.model.proofs.Places.{length-last, start-first, start-next, record-fits}
 use Rattle.model.proofs.Buffers.{over-put, put-length}
 use Rattle.model.proofs.Blocks.{join-length}
-use Rattle.model.proofs.Lengths.{input-zeros-blocks, zero-step-wide, header-length, record-length, records-length}
+use Rattle.model.proofs.Lengths.{input-zeros-blocks, zero-tokens-blocks, zero-step-wide, header-length, record-length, records-length}
 use Rattle.model.proofs.OneMore.{records-snoc}
 use Rattle.model.proofs.Calls.{garble-calls-at, garble-calls-all, garble-calls-snoc}
 use Rattle.model.proofs.Accepted.{accepted-header}
@@ -30,6 +31,15 @@ use Rattle.garble.specs.Walk.{zerosTo, WalkOf, StepStart, StepIs, GatesS
 use Rattle.garble.specs.declared.plan.Plan.{Plan}
 use Rattle.garble.proofs.BlockLaws.{over-block}
 use Rattle.garble.proofs.StepLaws.{zeros-many}
+
+-- the bytes of the material up to the last record of some gates, and of all zero tokens
+pub front-long : (γ : Garbling) (gs : List Gate) → length (header γ ++ records γ gs (inputZeros γ)) ≡ lastStart (γ .scheme) (charges gs)
+unfolding lastStart
+front-long γ gs = length-append (header γ) _ ∙ rw (header-length γ, records-length γ gs (inputZeros γ))
+
+pub zeros-long : (c seed : List ℕ) (want : Wanted) → length (joinBlocks (zeroTokens (garblingOf c seed want))) ≡ 16 * (inputs c + gates c)
+unfolding circuitOf
+zeros-long c seed want = join-length (rw tabulate-length at (zero-tokens-blocks (garblingOf c seed want)))
 
 -- the records of the first k gates
 recordsTo : List ℕ → List ℕ → Wanted → ℕ → List ℕ
@@ -74,13 +84,6 @@ module _ (c seed : List ℕ) (want : Wanted) (plan : Plan) (w : List ℕ) (walk 
         record { zeros-left = inv .zeros ∙ rw e; material-left = inv .material ∙ rw e; calls-made = inv .counted ∙ rw e }
 
     module _ (more : k < q) where
-      -- the bytes of the material so far
-      so-long : length (header (garblingOf c seed want) ++ recordsTo c seed want k) ≡ at
-      unfolding recordsTo lastStart
-      so-long =
-          length-append (header (garblingOf c seed want)) _
-          ∙ rw (header-length (garblingOf c seed want), records-length (garblingOf c seed want) (tabulate k (gateAt c)) (inputZeros (garblingOf c seed want)), inv .is-at)
-
       below : k < gates c
       below = omega (arith, start .is-q)
 
@@ -136,7 +139,7 @@ module _ (c seed : List ℕ) (want : Wanted) (plan : Plan) (w : List ℕ) (walk 
         material-next =
             done .material-left
             ∙ rw (inv .material, add-one, tabulate-snoc k (gateAt c), records-snoc (garblingOf c seed want) (tabulate k (gateAt c)) (gateAt c k) (inputZeros (garblingOf c seed want)))
-            (over-put (header (garblingOf c seed want) ++ recordsTo c seed want k) m₀ piece at so-long (omega (arith, piece-long, record-room))
+            (over-put (header (garblingOf c seed want) ++ recordsTo c seed want k) m₀ piece at (front-long (garblingOf c seed want) (tabulate k (gateAt c)) ∙ sym (inv .is-at)) (omega (arith, piece-long, record-room))
             ∙ ap (λ (l : List ℕ). over l m₀) (append-assoc (header (garblingOf c seed want)) (recordsTo c seed want k) piece))
 
         token : Block
@@ -172,3 +175,5 @@ module _ (c seed : List ℕ) (want : Wanted) (plan : Plan) (w : List ℕ) (walk 
           zeros = zeros-next;
           counted = counted-next;
         }
+
+pub ruleset walk-cases = (walk-start, walk-step, walk-calls, walk-turn, walk-end)

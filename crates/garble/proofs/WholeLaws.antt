@@ -17,11 +17,12 @@ use Rattle.model.proofs.Lists.{tabulate-length, tabulate-map}
 use Rattle.model.proofs.Buffers.{over-length, over-over}
 use Rattle.model.proofs.Outputs.{outputs-many}
 use Rattle.model.proofs.Blocks.{join-length}
-use Rattle.model.proofs.Lengths.{input-zeros-blocks, zero-tokens-blocks, header-length, material-length}
+use Rattle.model.proofs.Lengths.{input-zeros-blocks, header-length, material-length}
 use Rattle.circuit.proofs.AcceptedLaws as Sized
 use Rattle.garble.specs.declared.plan.Plan.{Plan}
 use Rattle.garble.specs.Walk.{PlanIs, WalkOf, FrontStart, FrontIs, BodyStart, BodyIs}
 use Rattle.garble.specs.Whole.{WholeStart, WholeIs}
+use Rattle.garble.proofs.WalkLaws.{zeros-long}
 
 module _ (c seed : List ℕ) (want : Wanted) (s : Sizes) (m z o : List ℕ) (start : WholeStart c seed want s m z o) where
   is-n : s .n ≡ inputs c
@@ -115,10 +116,6 @@ module _ (c seed : List ℕ) (want : Wanted) (s : Sizes) (m z o : List ℕ) (sta
         unfolding materialLength
         header-within = omega (arith, material-long)
 
-        zeros-long : length (joinBlocks (zeroTokens (garblingOf c seed want))) ≡ 16 * (inputs c + gates c)
-        unfolding circuitOf
-        zeros-long = join-length (rw tabulate-length at (zero-tokens-blocks (garblingOf c seed want)))
-
         pub whole-done : WholeIs c seed want m z o m2 z2 o1 calls
         whole-done = record {
           material-left =
@@ -128,7 +125,7 @@ module _ (c seed : List ℕ) (want : Wanted) (s : Sizes) (m z o : List ℕ) (sta
           zeros-left =
               done .zeros-left
               ∙ rw zeros-are
-              (over-over (joinBlocks (zeroTokens (garblingOf c seed want))) z (joinBlocks (inputZeros (garblingOf c seed want))) (omega (arith, inputs-long, zeros-long)) (omega (arith, zeros-long, start .wires-room)));
+              (over-over (joinBlocks (zeroTokens (garblingOf c seed want))) z (joinBlocks (inputZeros (garblingOf c seed want))) (omega (arith, inputs-long, zeros-long c seed want)) (omega (arith, zeros-long c seed want, start .wires-room)));
           ones-left = ones-are;
           calls-made = done .calls-made;
         }

@@ -7,18 +7,14 @@ use Rattle.garble.proofs.plan.plan_of.Tie as tie
 
 returns : tie.Need-returns
 unfolding aes
-returns c =
-    let seed = c .before in
-    let stride = seed .before in
-    let rows = stride .before in
-    record {
-      is-wanted = refl;
-      is-seed = refl;
-      is-stored = rows .rows-stored .ensures .0;
-      is-stride = stride .record-length .ensures .0;
-      is-n = refl;
-      is-offset = c .coloured .ensures ∙ ap coloured (seed .seed-block .ensures ∙ ap (λ w. cipher w (block 0)) (rows .before .pre .1));
-    }
+returns c = record {
+  is-wanted = refl;
+  is-seed = refl;
+  is-stored = c .before .before .before .rows-stored .ensures .0;
+  is-stride = c .before .before .record-length .ensures .0;
+  is-n = refl;
+  is-offset = c .coloured .ensures ∙ ap coloured (c .before .seed-block .ensures ∙ ap (λ w. cipher w (block 0)) (c .before .before .before .before .pre .1));
+}
 
 pub plan-of-spec : {M : Type 1} → statement M
 plan-of-spec =

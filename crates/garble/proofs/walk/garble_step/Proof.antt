@@ -1,5 +1,5 @@
 use borrow.Author.Needs.{needs}
-use Rattle.garble.proofs.StepLaws.{step-cases, step-next, step-charged, step-slot, step-free}
+use Rattle.garble.proofs.StepLaws.{step-cases, step-next, step-charged, step-bits, step-slot, step-free}
 use Rattle.garble.proofs.walk.garble_step.Statement.{statement}
 use Rattle.garble.proofs.walk.garble_step.Tie as tie
 
@@ -19,13 +19,17 @@ returns c =
     step-charged _ _ _ _ _ (pre .1 .1 .0) _ _ _ _ (pre .1 .1 .1) _ (read .read-operands .ensures) _ (kind .code-kind .ensures) _ _ _ (told .u .given .1) _ _ _
     (charged .garble-charged .ensures)
 
-store-requires : tie.Need-store-requires
-store-requires c κs =
-    let told = c .before .before .before in
-    let kind = told .before .before in
+free-zero-requires : tie.Need-free-zero-requires
+free-zero-requires c κs =
+    let kind = c .before .before .before .before in
     let read = kind .before in
     let pre = read .before .before .before .before .before .pre in
-    step-slot _ _ _ _ _ (pre .1 .1 .0) _ _ _ _ (pre .1 .1 .1) _ (read .read-operands .ensures) _ (kind .code-kind .ensures) _ _ _ (told .p .given .1)
+    step-bits _ _ _ _ _ (pre .1 .1 .0) _ _ _ _ (pre .1 .1 .1) _ (read .read-operands .ensures) _ (kind .code-kind .ensures) _ _ _ (c .before .before .p .given .1)
+
+store-requires : tie.Need-store-requires
+store-requires c κs =
+    let pre = c .before .before .before .before .before .before .before .before .before .before .before .pre in
+    step-slot _ _ _ _ _ (pre .1 .1 .0) _ _ _ _ (pre .1 .1 .1)
 
 returns-2 : tie.Need-returns-2
 returns-2 c =
@@ -42,6 +46,6 @@ garble-step-spec =
     tie.close
     (tie.spec (λ c κs. search step-cases) (λ c. search needs) (λ c. search needs) (λ c κs. search needs) (λ c. search needs)
     (λ c κs. (search needs, (search needs, search step-cases))) next-fits (λ c. search needs)
-    (λ c κs. (search step-cases, search step-cases, search step-cases)) store-requires (λ c. search needs)
+    free-zero-requires store-requires (λ c. search needs)
     (λ c. search needs) (λ c. search needs) returns (λ c. search needs) returns-2
     (λ c. search needs) (λ c. search step-cases))
