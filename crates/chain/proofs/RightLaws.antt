@@ -41,7 +41,7 @@ module _ (c seed : List ℕ) (want : Wanted) (v f z o t w b f′ z′ o′ t′ 
         at-one = λ k l h. rw (distance-is k l h) (demand-3 c seed want v a .at-one k l h);
       }
 
-  pub bits-right : DecodeAnswers c seed want v f z o t w b f′ z′ o′ t′ w′ b′ fine → BitsRight c seed want v b′
+  pub bits-right : DecodeAnswers c seed want v f z o t w b f′ z′ o′ t′ w′ b′ fine → BitsRight c v b′
   bits-right decoded = record {
     decoded = bits-handed c seed want f z o f′ z′ o′ (garbleMade c seed want) garbled v t t′ encoded w w′ evaluated b b′ decoded;
   }

@@ -34,7 +34,7 @@ pub record WiresRight (c seed : List ℕ) (want : Wanted) (v z′ w′ : List �
       → (distance (tokenAt w′ k) (tokenAt z′ k) ≡ offset (garblingOf c seed want)) ↔ (carries c v k ≡ 1)
 
 -- the decoded bytes
-pub record BitsRight (c seed : List ℕ) (want : Wanted) (v b′ : List ℕ) : Type 0 where
+pub record BitsRight (c v b′ : List ℕ) : Type 0 where
   pub decoded : take (outputs c) b′ ≡ map (carries c v) (circuitOf c .outputs)
 
 -- refusal 19, a buffer too short: "With the arguments that demand 3 names, only 19 can refuse one of the four"
@@ -107,7 +107,7 @@ module _ (c seed : List ℕ) (want : Wanted) (v f z o t w b f′ z′ o′ t′ 
     pub evaluate-ran : EvaluateRan
     pub decode-ran : DecodeAnswers fine
     pub wires-right : WiresRight c seed want v z′ w′
-    pub bits-right : BitsRight c seed want v b′
+    pub bits-right : BitsRight c v b′
 
 -- the chain's answer r, for every argument
 abbrev pub ChainIs : (c seed : List ℕ) (want : Wanted) (v f z o t w b : List ℕ) → Chained → (f′ z′ o′ t′ w′ b′ : List ℕ) → Type 0
