@@ -35,7 +35,7 @@ use Rattle.circuit.specs.Answers.{gateOf}
 use Rattle.circuit.proofs.AcceptedLaws.{limits, is-n, is-m, is-q}
 use Rattle.material.specs.declared.records.Cursor.{Cursor}
 use Rattle.material.specs.declared.records.Step.{Step}
-use Rattle.material.specs.Answers.{Filed, stepOf, gateAnswer, recordsVerdict}
+use Rattle.material.specs.Answers.{Filed, stepOf, rowAnswer, recordsVerdict}
 use Rattle.material.proofs.RowLaws.{row-first, row-end}
 use Rattle.material.proofs.RecordLaws.{Reading, at-turn, passAnswer, gate-passed, turn-next, turn-fault, one-charged, answer-free, answer-wrong, answer-right}
 use Rattle.material.proofs.MaterialLaws.{by-record, by-last, material-file, filed}
@@ -171,7 +171,7 @@ module _ (c : List ℕ) (z : Sizes) (s : List ℕ) (known : Filed c z s) (k : �
   reading : Reading c s (z .q) k here
   reading = record { within = omega (arith, more); no-fault = rows .no-fault; placed = rows .placed }
 
-  at-gate : stepOf u ≡ gateAnswer c s k
+  at-gate : stepOf u ≡ rowAnswer c s k
   at-gate =
       gate-passed c z s k (here .at) (at-turn c z s known k here reading more) g is-g u is-u
 

@@ -38,7 +38,7 @@ use Rattle.circuit.specs.Answers.{TakesIs, takesA, takesB}
 use Rattle.scheme.specs.declared.OpenedGate.{OpenedGate}
 use Rattle.scheme.specs.Garbled.{OpenedIs}
 use Rattle.scheme.specs.Rows.{RecordRoom}
-use Rattle.evaluate.specs.Walk.{Operands, GateRoom, TokenStart, TokenIs, FreeTokenIs, StepStart, StepIs, WalkStart, WiresStart, S, tokensTo, Walking, WalkedIs, WiresAre}
+use Rattle.evaluate.specs.Walk.{Operands, GateRoom, TokenStart, TokenIs, FreeTokenIs, OpenStart, OpenedTo, WalkStart, WiresStart, S, tokensTo, Walking, WalkedIs, WiresAre}
 
 -- a free gate's token, from the operands that its code takes
 free-opened : (S : Scheme) (k : Kind) → isRefused k ≡ false → charge k ≡ 0 → (g : ℕ) (bs : List ℕ) (a b : Block) → openAt S k g bs a b ≡ freeToken (takesA k) (takesB k) a b
@@ -125,7 +125,7 @@ used-known : {k : Kind} → Used k → isRefused k ≡ false
 used-known used-charged = refl
 used-known used-free = refl
 
-module _ (scheme : ℕ) (c : List ℕ) (n k : ℕ) (s : List ℕ) (at calls : ℕ) (d : List ℕ) (start : StepStart scheme c n k s at calls d) where
+module _ (scheme : ℕ) (c : List ℕ) (n k : ℕ) (s : List ℕ) (at calls : ℕ) (d : List ℕ) (start : OpenStart scheme c n k s at calls d) where
   in-circuit : HeaderHolds c
   in-circuit = accepted-header c (start .accepted)
 
@@ -156,12 +156,12 @@ module _ (scheme : ℕ) (c : List ℕ) (n k : ℕ) (s : List ℕ) (at calls : �
   pub step-room : (g : Gate) → g ≡ gateAt c k → charge (kindOf (g .code)) ≡ 1 → RecordRoom scheme at s
   step-room g is-g h = charged-room scheme (g .code) at s (step-token g is-g .record-room) h
 
-  pub step-free : (g : Gate) → g ≡ gateAt c k → (d′ : List ℕ) → FreeTokenIs n k g d d′ → StepIs scheme n k (gateAt c k) s at calls d at calls d′
+  pub step-free : (g : Gate) → g ≡ gateAt c k → (d′ : List ℕ) → FreeTokenIs n k g d d′ → OpenedTo scheme n k (gateAt c k) s at calls d at calls d′
   step-free g is-g d′ t = record { made = 0; token = rw (← is-g) (t .left scheme s at); added = omega arith }
 
   module _ (g : Gate) (is-g : g ≡ gateAt c k) (bytes : ℕ) (is-bytes : bytes ≡ recordLength (schemeOf scheme)) where
     pub step-charged : (next : ℕ) → next ≡ at + bytes → (made : ℕ) (d′ : List ℕ) → TokenIs scheme n k g s at d (at + recordLength (schemeOf scheme)) made d′
-        → StepIs scheme n k (gateAt c k) s at calls d next (calls + made) d′
+        → OpenedTo scheme n k (gateAt c k) s at calls d next (calls + made) d′
     step-charged next e made d′ t = record { made = made; token = rw (e, is-bytes, ← is-g) t; added = refl }
 
   -- no count overflows
@@ -244,7 +244,7 @@ module _ (c s : List ℕ) (n q : ℕ) (o : List ℕ) (start : WalkStart c s n q 
           let fits = record-fits (getD s 2 0) (gateAt c) k (gates c) (omega (arith, start .is-q)) in
           omega (arith, fits, inv .is-at, start .whole, length-last (getD s 2 0) (outputs c) (charges (tabulate (gates c) (gateAt c))))
 
-      pub walk-step : StepStart (getD s 2 0) c n k s at calls d
+      pub walk-step : OpenStart (getD s 2 0) c n k s at calls d
       walk-step = record {
         accepted = start .accepted;
         is-n = start .is-n;
@@ -304,7 +304,7 @@ module _ (c s : List ℕ) (n q : ℕ) (o : List ℕ) (start : WalkStart c s n q 
             counted = rw add-one (counted-next made (step .calls-made));
           }
 
-      pub walk-stepped : (next calls′ : ℕ) (d′ : List ℕ) → StepIs (getD s 2 0) n k (gateAt c k) s at calls d next calls′ d′ → Walking c s n q o (k + 1) next calls′ d′
+      pub walk-stepped : (next calls′ : ℕ) (d′ : List ℕ) → OpenedTo (getD s 2 0) n k (gateAt c k) s at calls d next calls′ d′ → Walking c s n q o (k + 1) next calls′ d′
       walk-stepped next calls′ d′ step = rw (step .added) (walk-turn next (step .made) d′ (step .token))
 
 pub ruleset walk-turns = (walk-scheme, walk-start, walk-end, walk-step, walk-stepped)

@@ -46,7 +46,7 @@ pub record FreeTokenIs (n k : ℕ) (g : Gate) (d d′ : List ℕ) : Type 0 where
   pub left : (scheme : ℕ) (s : List ℕ) (at : ℕ) → TokenIs scheme n k g s at d at 0 d′
 
 -- the same of gate k of an accepted circuit, few calls of π so far
-pub record StepStart (scheme : ℕ) (c : List ℕ) (n k : ℕ) (s : List ℕ) (at calls : ℕ) (d : List ℕ) : Type 0 where
+pub record OpenStart (scheme : ℕ) (c : List ℕ) (n k : ℕ) (s : List ℕ) (at calls : ℕ) (d : List ℕ) : Type 0 where
   pub accepted : circuitVerdict c ≡ fine
   pub is-n : n ≡ inputs c
   pub more : k < gates c
@@ -55,7 +55,7 @@ pub record StepStart (scheme : ℕ) (c : List ℕ) (n k : ℕ) (s : List ℕ) (a
   pub few-calls : calls ≤ 2 * k
 
 -- its token, and the calls made for it added to those so far
-pub record StepIs (scheme n k : ℕ) (g : Gate) (s : List ℕ) (at calls : ℕ) (d : List ℕ) (next calls′ : ℕ) (d′ : List ℕ) : Type 0 where
+pub record OpenedTo (scheme n k : ℕ) (g : Gate) (s : List ℕ) (at calls : ℕ) (d : List ℕ) (next calls′ : ℕ) (d′ : List ℕ) : Type 0 where
   pub made : ℕ
   pub token : TokenIs scheme n k g s at d next made d′
   pub added : calls′ ≡ calls + made

@@ -8,7 +8,7 @@ ghost use Rattle.model.specs.Circuit.{gateAt, kindOf, charge};
 ghost use Rattle.model.specs.Scheme.{recordLength};
 ghost use Rattle.model.specs.Garbling.{schemeOf};
 ghost use Rattle.scheme.specs.Rows.{RecordRoom};
-ghost use Rattle.evaluate.specs.Walk.{Operands, FreeTokenIs, TokenIs, StepStart, StepIs, WalkStart, WalkedIs, WiresStart, WiresAre};
+ghost use Rattle.evaluate.specs.Walk.{Operands, FreeTokenIs, TokenIs, OpenStart, OpenedTo, WalkStart, WalkedIs, WiresStart, WiresAre};
 use aes::fixed_schedule;
 use aes::t_tables;
 use block::load;
@@ -86,8 +86,8 @@ fn write_token_at(
 ) -> SoFar
     requires { ⌜ IsTTables (now t) ⌝ }
     requires { ⌜ now w ≡ keyExpansion fixedKey ⌝ }
-    requires { ⌜ StepStart scheme (now circuit) n k (now material) (s .here .at) (s .calls) (now wires) ⌝ }
-    ensures { λ r. ⌜ StepIs scheme n k (gateAt (now (circuit .entry)) k) (now (material .entry)) (s .here .at) (s .calls) (now (wires .entry)) (r .here .at) (r .calls) (now (wires .exit)) ⌝ }
+    requires { ⌜ OpenStart scheme (now circuit) n k (now material) (s .here .at) (s .calls) (now wires) ⌝ }
+    ensures { λ r. ⌜ OpenedTo scheme n k (gateAt (now (circuit .entry)) k) (now (material .entry)) (s .here .at) (s .calls) (now (wires .entry)) (r .here .at) (r .calls) (now (wires .exit)) ⌝ }
 {
     let g = gate_at(circuit, k);
     if code_charge(g.code) == 0 {

@@ -21,7 +21,7 @@ use Rattle.scheme.specs.Garbled.{site, GarbledIs}
 use Rattle.scheme.specs.declared.Site.{Site}
 use Rattle.scheme.specs.declared.GarbledGate.{GarbledGate}
 use Rattle.garble.specs.declared.gate.GateIn.{GateIn}
-use Rattle.garble.specs.Walk.{WriterRoom, recordBytes, FreshIs, siteAt, ChargedStart, ChargedIs}
+use Rattle.garble.specs.Walk.{WriterRoom, writtenRecord, FreshIs, siteAt, ChargedStart, ChargedIs}
 
 -- ---- fresh_block
 module _ (w : List ℕ) (scheme g : ℕ) (r : Block) where
@@ -110,10 +110,10 @@ module _ (scheme stored code u v x : ℕ) (m : List ℕ) (at : ℕ) (z : List �
   }
 
   pub charged-done : (w : List ℕ) (R : Block) (g : GateIn) (made : GarbledGate) → GarbledIs (schemeOf scheme) (garbleAsks scheme (siteAt w R g)) (siteAt w R g) made
-      → (m′ z′ : List ℕ) → z′ ≡ put z slot (made .zero .bytes) → m′ ≡ put m at (recordBytes (g .own .0) stored made)
+      → (m′ z′ : List ℕ) → z′ ≡ put z slot (made .zero .bytes) → m′ ≡ put m at (writtenRecord (g .own .0) stored made)
       → ChargedIs scheme (siteAt w R g) m at z slot m′ z′ (made .calls)
   charged-done w R g made is m′ z′ is-z is-m = record {
     zeros-left = rw (is .is-zero) at is-z;
-    material-left = is-m ∙ unfold recordBytes siteAt in (rw (start .is-stored, is .is-rows));
+    material-left = is-m ∙ unfold writtenRecord siteAt in (rw (start .is-stored, is .is-rows));
     calls-made = is .is-calls;
   }

@@ -42,8 +42,8 @@ pub record WalkOf (c seed : List ℕ) (want : Wanted) (p : Plan) (w : List ℕ) 
 -- ---- a charged gate
 
 -- a charged gate's record: its head, and its first rows
-unfoldable pub recordBytes : ℕ → ℕ → GarbledGate → List ℕ
-recordBytes own stored g =
+unfoldable pub writtenRecord : ℕ → ℕ → GarbledGate → List ℕ
+writtenRecord own stored g =
     0x47 ∷ 0x54 ∷ two own ++ joinBlocks (take stored (g .row0 .bytes ∷ g .row1 .bytes ∷ g .row2 .bytes ∷ g .row3 .bytes ∷ []))
 
 -- room for what writes a record of 2 to 4 rows

@@ -3,7 +3,7 @@ ghost use mathlib.Core.Path.{_≡_};
 ghost use Rattle.model.specs.Bytes.{put};
 ghost use Rattle.aes.specs.Tables.{IsTTables};
 ghost use Rattle.model.specs.Aes.{keyExpansion, fixedKey};
-ghost use Rattle.garble.specs.Walk.{WriterRoom, recordBytes, siteAt, ChargedStart, ChargedIs};
+ghost use Rattle.garble.specs.Walk.{WriterRoom, writtenRecord, siteAt, ChargedStart, ChargedIs};
 use crate::gate::GateIn;
 use crate::gate::make_charged;
 use crate::plan::Plan;
@@ -16,7 +16,7 @@ use scheme::GarbledGate;
 // The record of a charged gate with two rows: mark 47 54, its wire number, and the rows.
 fn write_two(material: &mut [u8], at: usize, own: Wire, g: GarbledGate)
     requires { ⌜ WriterRoom at 2 (now material) ⌝ }
-    ensures { λ _. ⌜ now (material .exit) ≡ put (now (material .entry)) at (recordBytes (own .0) 2 g) ⌝ }
+    ensures { λ _. ⌜ now (material .exit) ≡ put (now (material .entry)) at (writtenRecord (own .0) 2 g) ⌝ }
 {
     write_record_head(material, at, own);
     store(material, at + 4, g.row0);
@@ -26,7 +26,7 @@ fn write_two(material: &mut [u8], at: usize, own: Wire, g: GarbledGate)
 // The same with three rows.
 fn write_three(material: &mut [u8], at: usize, own: Wire, g: GarbledGate)
     requires { ⌜ WriterRoom at 3 (now material) ⌝ }
-    ensures { λ _. ⌜ now (material .exit) ≡ put (now (material .entry)) at (recordBytes (own .0) 3 g) ⌝ }
+    ensures { λ _. ⌜ now (material .exit) ≡ put (now (material .entry)) at (writtenRecord (own .0) 3 g) ⌝ }
 {
     write_two(material, at, own, g);
     store(material, at + 36, g.row2);
@@ -35,7 +35,7 @@ fn write_three(material: &mut [u8], at: usize, own: Wire, g: GarbledGate)
 // The same with four.
 fn write_four(material: &mut [u8], at: usize, own: Wire, g: GarbledGate)
     requires { ⌜ WriterRoom at 4 (now material) ⌝ }
-    ensures { λ _. ⌜ now (material .exit) ≡ put (now (material .entry)) at (recordBytes (own .0) 4 g) ⌝ }
+    ensures { λ _. ⌜ now (material .exit) ≡ put (now (material .entry)) at (writtenRecord (own .0) 4 g) ⌝ }
 {
     write_three(material, at, own, g);
     store(material, at + 52, g.row3);
@@ -44,7 +44,7 @@ fn write_four(material: &mut [u8], at: usize, own: Wire, g: GarbledGate)
 // The record of a charged gate, with as many rows as its scheme stores.
 pub fn write_record(material: &mut [u8], at: usize, own: Wire, stored: usize, g: GarbledGate)
     requires { ⌜ WriterRoom at stored (now material) ⌝ }
-    ensures { λ _. ⌜ now (material .exit) ≡ put (now (material .entry)) at (recordBytes (own .0) stored g) ⌝ }
+    ensures { λ _. ⌜ now (material .exit) ≡ put (now (material .entry)) at (writtenRecord (own .0) stored g) ⌝ }
 {
     if stored == 2 {
         write_two(material, at, own, g);

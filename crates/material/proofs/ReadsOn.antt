@@ -1,6 +1,6 @@
 -- Document 01, "Material": "A reader over the lent material goes from one marked record to the next and remembers how far it is." Where that leads in a
 -- material that is well-formed for a circuit: from the first record to that of each charged gate in turn, to the last record, and to the end.
--- `recordOf s at` is what `record_at` answers at a place of s: what stands there, and the place past it. Assumes nothing.
+-- `foundRecord s at` is what `record_at` answers at a place of s: what stands there, and the place past it. Assumes nothing.
 use Prim.Native.Nat.{ℕ, zero, suc, _+_, _-_, _≤_, _<_}
 use native.Mathlib.Nat.{add-zero}
 use native.Mathlib.Numerals.{add-one}
@@ -20,7 +20,7 @@ use Rattle.model.proofs.Lists.{tabulate-snoc}
 use Rattle.model.proofs.Circuits.{charges-snoc, charge-le}
 use Rattle.model.proofs.Verdicts.{then-fine, refuse-fine, first-each}
 use Rattle.material.specs.declared.reader.Standing.{Standing}
-use Rattle.material.specs.Reader.{standingAt, pastAt, recordOf}
+use Rattle.material.specs.Reader.{standingAt, pastAt, foundRecord}
 use Rattle.material.proofs.SizeLaws.{inputs-same, gates-many, code-at}
 use Rattle.material.proofs.MaterialLaws.{circuit-file}
 use Rattle.material.proofs.ReaderLaws.{record-stands, record-found, stands-last}
@@ -32,11 +32,11 @@ pub record ReadsOn (c s : List ℕ) : Type 0 where
   pub start : rowStart (circuitOf c) s 0 ≡ 9
   -- the record of a charged gate, with the gate's wire number; past it the next gate's is due
   pub each-gate : (k : ℕ) → k < gates c → charge (kindOf (gateAt c k .code)) ≡ 1
-      → recordOf s (rowStart (circuitOf c) s k) ≡ record { standing = Standing.Gate (record { 0 = gateWire (inputs c) k }); next = rowStart (circuitOf c) s (k + 1) }
+      → foundRecord s (rowStart (circuitOf c) s k) ≡ record { standing = Standing.Gate (record { 0 = gateWire (inputs c) k }); next = rowStart (circuitOf c) s (k + 1) }
   -- a gate that is not charged has none, and the reader stays where it is
   pub no-record : (k : ℕ) → k < gates c → charge (kindOf (gateAt c k .code)) ≡ 0 → rowStart (circuitOf c) s (k + 1) ≡ rowStart (circuitOf c) s k
   -- past them all the last record, which has a byte for each output after its mark; past it the end
-  pub last : recordOf s (rowStart (circuitOf c) s (gates c)) ≡ record { standing = Standing.Last; next = length s }
+  pub last : foundRecord s (rowStart (circuitOf c) s (gates c)) ≡ record { standing = Standing.Last; next = length s }
   pub last-place : rowStart (circuitOf c) s (gates c) ≡ lastStart (getD s 2 0) (charges (circuitOf c .gates))
   pub last-long : rowStart (circuitOf c) s (gates c) + 2 + outputs c ≡ length s
 

@@ -25,8 +25,8 @@ use Rattle.material.specs.declared.records.Cursor.{Cursor}
 use Rattle.material.specs.declared.records.Step.{Step}
 use Rattle.material.specs.declared.reader.Standing.{Standing}
 use Rattle.material.specs.declared.reader.Record.{Record}
-use Rattle.material.specs.Reader.{standingAt, recordOf, isRowOf}
-use Rattle.material.specs.Answers.{Filed, AtGate, stepOf, nextAnswer, gateAnswer, recordsVerdict, recordsAnswer}
+use Rattle.material.specs.Reader.{standingAt, foundRecord, isRowOf}
+use Rattle.material.specs.Answers.{Filed, AtGate, stepOf, nextAnswer, rowAnswer, recordsVerdict, recordsAnswer}
 use Rattle.circuit.proofs.AcceptedLaws.{limits, is-n, is-q, few-wires}
 use Rattle.material.proofs.SizeLaws.{inputs-same, code-at}
 use Rattle.material.proofs.ReaderLaws.{isOf, row-record, whole-record, record-stands}
@@ -52,7 +52,7 @@ module _ (s : List ℕ) (at due : ℕ) (room : at + 4 ≤ length s) (x : Standin
 pub ruleset row-cases = (row-gate, row-cut, row-last, row-nothing)
 
 -- ---- next_record: what the reader found
-module _ (s : List ℕ) (at due : ℕ) (x : Record) (is-x : x ≡ recordOf s at) where
+module _ (s : List ℕ) (at due : ℕ) (x : Record) (is-x : x ≡ foundRecord s at) where
   wrong : isRowOf due (x .standing) ≡ false → no (refused 17 due) ≡ nextAnswer s at due
   unfolding refuse
   wrong e = let h : isRowOf due (standingAt s at) ≡ false = rw is-x at e in simp h
@@ -131,7 +131,7 @@ module _ (c : List ℕ) (z : Sizes) (s : List ℕ) (k at : ℕ) (turn : AtGate c
 
   -- gate k as it was read
   module _ (g : Gate) (is-g : g ≡ gateAt c k) where
-    pub gate-passed : (r : Step) → stepOf r ≡ passAnswer s at (g .code) (z .n + k + 1) → stepOf r ≡ gateAnswer c s k
+    pub gate-passed : (r : Step) → stepOf r ≡ passAnswer s at (g .code) (z .n + k + 1) → stepOf r ≡ rowAnswer c s k
     gate-passed r is-r =
         let after : rowStart (circuitOf c) s (k + 1) ≡ at + charge (kindOf (g .code)) * recordLength (schemeOf (getD s 2 0)) = rw (row-next c s k inside, ← is-g, turn .placed) in
         rw (at-gate, after) is-r
@@ -141,16 +141,16 @@ module _ (c : List ℕ) (z : Sizes) (s : List ℕ) (k at : ℕ) (turn : AtGate c
 
     -- its code's kind as it was read
     module _ (kind : Kind) (is-kind : meaning kind ≡ kindOf (g .code)) where
-      passed : charge (meaning kind) ≡ 0 → yes at ≡ gateAnswer c s k
+      passed : charge (meaning kind) ≡ 0 → yes at ≡ rowAnswer c s k
       passed e = gate-passed (Step.Next (record { at = at })) (answer-free s at (g .code) (z .n + k + 1) (rw is-kind at e))
 
-      pub gate-free : (p q d : Truth) → kind ≡ Kind.Free p q d → yes at ≡ gateAnswer c s k
+      pub gate-free : (p q d : Truth) → kind ≡ Kind.Free p q d → yes at ≡ rowAnswer c s k
       gate-free p q d e = passed (rw e)
 
-      pub gate-refused : kind ≡ Kind.Refused → yes at ≡ gateAnswer c s k
+      pub gate-refused : kind ≡ Kind.Refused → yes at ≡ rowAnswer c s k
       gate-refused e = passed (rw e)
 
-      pub gate-charged : (u v o : Truth) → kind ≡ Kind.Charged u v o → (r : Step) → stepOf r ≡ nextAnswer s at (z .n + k + 1) → stepOf r ≡ gateAnswer c s k
+      pub gate-charged : (u v o : Truth) → kind ≡ Kind.Charged u v o → (r : Step) → stepOf r ≡ nextAnswer s at (z .n + k + 1) → stepOf r ≡ rowAnswer c s k
       gate-charged u v o e r is-r = gate-passed r (is-r ∙ answer-read s at (g .code) (z .n + k + 1) (λ none. absurd (omega (arith, one))) (omega (arith, room)))
         where
           one : charge (kindOf (g .code)) ≡ 1
@@ -184,7 +184,7 @@ module _ (c : List ℕ) (z : Sizes) (s : List ℕ) (known : Filed c z s) where
       at-turn = record { known = known; more = more; few = omega (arith, few-wires c z (known .circuit)); placed = inv .placed }
 
       -- what was found at the gate
-      module _ (r : Step) (is-r : stepOf r ≡ gateAnswer c s k) where
+      module _ (r : Step) (is-r : stepOf r ≡ rowAnswer c s k) where
         pub turn-next : (there : Cursor) → r ≡ Step.Next there → Reading c s (z .q) (k + 1) there
         turn-next there e =
             let t = yes-given (rowVerdict (circuitOf c) s k) (there .at) (rowStart (circuitOf c) s (k + 1)) (rw e at is-r) in

@@ -36,8 +36,8 @@ pub record AtGate (c : List ℕ) (z : Sizes) (s : List ℕ) (k at : ℕ) : Type 
   pub placed : at ≡ rowStart (circuitOf c) s k
 
 -- past the record of gate k
-abbrev pub gateAnswer : List ℕ → List ℕ → ℕ → Answer ℕ
-gateAnswer c s k = answer (rowVerdict (circuitOf c) s k) (rowStart (circuitOf c) s (k + 1))
+abbrev pub rowAnswer : List ℕ → List ℕ → ℕ → Answer ℕ
+rowAnswer c s k = answer (rowVerdict (circuitOf c) s k) (rowStart (circuitOf c) s (k + 1))
 
 -- 17 of all gates
 abbrev pub recordsVerdict : List ℕ → List ℕ → Verdict

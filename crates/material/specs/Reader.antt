@@ -41,8 +41,8 @@ abbrev pub pastAt : List ℕ → ℕ → ℕ
 pastAt s at = pastOf s at (standingAt s at)
 
 -- both
-abbrev pub recordOf : List ℕ → ℕ → Record
-recordOf s at = record { standing = standingAt s at; next = pastAt s at }
+abbrev pub foundRecord : List ℕ → ℕ → Record
+foundRecord s at = record { standing = standingAt s at; next = pastAt s at }
 
 -- it is the record of a gate with this wire number
 abbrev pub isRowOf : ℕ → Standing → Bool

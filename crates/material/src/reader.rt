@@ -5,7 +5,7 @@
 ghost use mathlib.Core.Path.{_≡_};
 ghost use Prim.Native.Nat.{_+_, _≤_};
 ghost use lib.ListN.{length};
-ghost use Rattle.material.specs.Reader.{gateStanding, standingAt, pastAt, recordOf};
+ghost use Rattle.material.specs.Reader.{gateStanding, standingAt, pastAt, foundRecord};
 use crate::marks::mark_at;
 use crate::record_length;
 use buffer::read16;
@@ -129,7 +129,7 @@ pub fn found_at(material: &[u8], at: usize) -> Standing
 
 // The same, and how far the reader is when it has gone past.
 pub fn record_at(material: &[u8], at: usize) -> Record
-    ensures { λ r. ⌜ r ≡ recordOf (now (material .entry)) at ⌝ }
+    ensures { λ r. ⌜ r ≡ foundRecord (now (material .entry)) at ⌝ }
 {
     let here = Reader { material, at };
     let standing = here.standing();

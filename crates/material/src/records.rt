@@ -3,7 +3,7 @@ ghost use mathlib.Core.Path.{_≡_};
 ghost use Prim.Native.Nat.{_+_, _≤_, _<_};
 ghost use lib.ListN.{length};
 ghost use Rattle.model.specs.Refusals.{rowRecordAt};
-ghost use Rattle.material.specs.Answers.{Filed, AtGate, stepOf, nextAnswer, gateAnswer, recordsAnswer};
+ghost use Rattle.material.specs.Answers.{Filed, AtGate, stepOf, nextAnswer, rowAnswer, recordsAnswer};
 use crate::reader::Standing;
 use crate::reader::first_record;
 use crate::reader::found_at;
@@ -85,7 +85,7 @@ fn next_record(material: &[u8], here: Cursor, due: Wire) -> Step
 // circuit has no refused one: nothing is read.
 fn pass_gate(circuit: &[u8], z: Sizes, material: &[u8], k: usize, here: Cursor) -> Step
     requires { ⌜ AtGate (now circuit) z (now material) k (here .at) ⌝ }
-    ensures { λ r. ⌜ stepOf r ≡ gateAnswer (now (circuit .entry)) (now (material .entry)) k ⌝ }
+    ensures { λ r. ⌜ stepOf r ≡ rowAnswer (now (circuit .entry)) (now (material .entry)) k ⌝ }
 {
     let g = gate_at(circuit, k);
     let due = Wire((z.n + k + 1) as u16);
