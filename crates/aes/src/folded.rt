@@ -52,18 +52,18 @@ impl Folded {
 
     // A round but the last. Of the key the first two words come first and the last two last, folded: while they are exclusive-ored in
     // as one word, the compiler keeps the two columns together.
-    pub fn round(self, m: &[u32; 1024], w: &[u8; 176], r: usize) -> Folded
-        requires { ⌜ IsTTables (now m) ⌝ }
+    pub fn round(self, tables: &[u32; 1024], w: &[u8; 176], r: usize) -> Folded
+        requires { ⌜ IsTTables (now tables) ⌝ }
         requires { ⌜ r < 11 ⌝ }
         ensures { λ q. ⌜ stateOf (columns q) ≡ aesRound (now (w .entry)) r (stateOf (columns self)) ⌝ }
     {
         let s = self.words();
         let k = Words::round_key(w, r);
         let mixed = Words::two(k.a, k.b)
-            .spread(m, s.a)
-            .spread(m, s.b)
-            .spread(m, s.c)
-            .spread(m, s.d);
+            .spread(tables, s.a)
+            .spread(tables, s.b)
+            .spread(tables, s.c)
+            .spread(tables, s.d);
         let made = fold(mixed.c, mixed.d);
         let key = fold(k.c, k.d);
         Folded {

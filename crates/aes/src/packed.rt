@@ -45,15 +45,18 @@ fn key_word(w: &[u8; 176], i: usize) -> u32
 }
 
 // A column through SubBytes and ShiftRows alone. Table 2 has the S-box's own byte in row 0, table 3 in row 1, and so on around.
-fn shifted_word(m: &[u32; 1024], a: u32, b: u32, c: u32, d: u32) -> u32
-    requires { ⌜ IsTTables (now m) ⌝ }
+fn shifted_word(tables: &[u32; 1024], a: u32, b: u32, c: u32, d: u32) -> u32
+    requires { ⌜ IsTTables (now tables) ⌝ }
     ensures { λ r. ⌜ wordOf r ≡ subWord (byteOf a 0 ∷ byteOf b 1 ∷ byteOf c 2 ∷ byteOf d 3 ∷ []) ⌝ }
 {
     let p = (a % 256) as usize;
     let q = ((b >> 8) % 256) as usize;
     let r = ((c >> 16) % 256) as usize;
     let s = (d >> 24) as usize;
-    (m[512 + p] & 0xFF) ^ (m[768 + q] & 0xFF00) ^ (m[r] & 0xFF0000) ^ (m[256 + s] & 0xFF000000)
+    (tables[512 + p] & 0xFF)
+        ^ (tables[768 + q] & 0xFF00)
+        ^ (tables[r] & 0xFF0000)
+        ^ (tables[256 + s] & 0xFF000000)
 }
 
 impl Words {
@@ -100,15 +103,15 @@ impl Words {
     }
 
     // SubBytes and ShiftRows, §5.1.1 and §5.1.2.
-    fn shifted(self, m: &[u32; 1024]) -> Words
-        requires { ⌜ IsTTables (now m) ⌝ }
+    fn shifted(self, tables: &[u32; 1024]) -> Words
+        requires { ⌜ IsTTables (now tables) ⌝ }
         ensures { λ r. ⌜ stateOf r ≡ shiftRows (subBytes (stateOf self)) ⌝ }
     {
         let s = self;
-        let a = shifted_word(m, s.a, s.b, s.c, s.d);
-        let b = shifted_word(m, s.b, s.c, s.d, s.a);
-        let c = shifted_word(m, s.c, s.d, s.a, s.b);
-        let d = shifted_word(m, s.d, s.a, s.b, s.c);
+        let a = shifted_word(tables, s.a, s.b, s.c, s.d);
+        let b = shifted_word(tables, s.b, s.c, s.d, s.a);
+        let c = shifted_word(tables, s.c, s.d, s.a, s.b);
+        let d = shifted_word(tables, s.d, s.a, s.b, s.c);
         Words { a, b, c, d }
     }
 
@@ -149,13 +152,13 @@ impl Words {
     // What a column x of the state before gives to the four columns after SubBytes, ShiftRows and MixColumns, exclusive-ored in: its
     // row 0 goes to its own column, which is the first here, row 1 to the one before, and so on around. Then the next column comes
     // first: after four columns they stand in their order again. The order of the look-ups is the one that the compiler makes the most of.
-    pub fn spread(self, m: &[u32; 1024], x: u32) -> Words
-        ensures { λ q. ⌜ Spread (now (m .entry)) self x q ⌝ }
+    pub fn spread(self, tables: &[u32; 1024], x: u32) -> Words
+        ensures { λ q. ⌜ Spread (now (tables .entry)) self x q ⌝ }
     {
-        let c = self.c ^ m[512 + ((x >> 16) % 256) as usize];
-        let a = self.a ^ m[(x % 256) as usize];
-        let d = self.d ^ m[256 + ((x >> 8) % 256) as usize];
-        let b = self.b ^ m[768 + ((x >> 24) % 256) as usize];
+        let c = self.c ^ tables[512 + ((x >> 16) % 256) as usize];
+        let a = self.a ^ tables[(x % 256) as usize];
+        let d = self.d ^ tables[256 + ((x >> 8) % 256) as usize];
+        let b = self.b ^ tables[768 + ((x >> 24) % 256) as usize];
         Words {
             a: b,
             b: c,
@@ -173,23 +176,23 @@ impl Words {
 
     // A round but the last. The key comes first and each column is looked up at once and then done with: so the columns before and
     // after the round stay in registers.
-    pub fn round(self, m: &[u32; 1024], w: &[u8; 176], r: usize) -> Words
-        requires { ⌜ IsTTables (now m) ⌝ }
+    pub fn round(self, tables: &[u32; 1024], w: &[u8; 176], r: usize) -> Words
+        requires { ⌜ IsTTables (now tables) ⌝ }
         requires { ⌜ r < 11 ⌝ }
         ensures { λ q. ⌜ stateOf q ≡ aesRound (now (w .entry)) r (stateOf self) ⌝ }
     {
         let k = Words::round_key(w, r);
-        k.spread(m, self.a)
-            .spread(m, self.b)
-            .spread(m, self.c)
-            .spread(m, self.d)
+        k.spread(tables, self.a)
+            .spread(tables, self.b)
+            .spread(tables, self.c)
+            .spread(tables, self.d)
     }
 
     // The last round, which has no MixColumns.
-    pub fn last_round(self, m: &[u32; 1024], w: &[u8; 176]) -> Block
-        requires { ⌜ IsTTables (now m) ⌝ }
+    pub fn last_round(self, tables: &[u32; 1024], w: &[u8; 176]) -> Block
+        requires { ⌜ IsTTables (now tables) ⌝ }
         ensures { λ q. ⌜ q .bytes ≡ addRoundKey (now (w .entry)) 10 (shiftRows (subBytes (stateOf self))) ⌝ }
     {
-        self.shifted(m).add_round_key(w, 10).block()
+        self.shifted(tables).add_round_key(w, 10).block()
     }
 }

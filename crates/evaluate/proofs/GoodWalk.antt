@@ -28,7 +28,8 @@ use Rattle.circuit.proofs.AcceptedLaws.{limits, is-n, is-m, is-q, is-p, few-wir
 use Rattle.material.proofs.SizeLaws.{gates-many}
 use Rattle.material.proofs.RowLaws.{row-first, row-room, filed-holds}
 use Rattle.evaluate.specs.declared.list.Walk.{Walk}
-use Rattle.evaluate.specs.GateList.{Lent, Ended, GoesTo, Begun, GateIs, Stands, Few, Tries, Checks, Writes, TryLeads, CheckLeads, WriteLeads}
+use Rattle.aes.specs.Lent.{Lent}
+use Rattle.evaluate.specs.GateList.{Ended, GoesTo, Begun, GateIs, Stands, Few, Tries, Checks, Writes, TryLeads, CheckLeads, WriteLeads}
 use Rattle.evaluate.proofs.RestLaws.{evaluate-verdict}
 use Rattle.evaluate.proofs.WalkLaws.{walk-few, walk-step, step-token, wires-walk}
 use Rattle.evaluate.proofs.GateListLaws.{neither, goes-0, refuses, accepted-by, wires}

@@ -12,8 +12,7 @@ use Rattle.model.specs.declared.Evaluated.{Evaluated}
 use Rattle.model.specs.declared.Refusal.the-variants.{Limits}
 use Rattle.model.specs.Bytes.{tabulate, over}
 use Rattle.model.specs.Circuit.{circuitOf, inputs, outputs, gates, markAt, recordAt, gateAt, kindOf, charge, charges, sizesHold}
-use Rattle.aes.specs.Tables.{IsTTables}
-use Rattle.model.specs.Aes.{keyExpansion, fixedKey}
+use Rattle.aes.specs.Lent.{Lent}
 use Rattle.model.specs.Scheme.{recordLength}
 use Rattle.model.specs.Garbling.{schemeOf}
 use Rattle.model.specs.Refusals.{fine, firstOf, headVerdict, gatesVerdict, rowStart, rowVerdict, rowRecordAt}
@@ -22,11 +21,6 @@ use Rattle.material.specs.declared.records.Cursor.{Cursor}
 use Rattle.material.specs.Answers.{Filed}
 use Rattle.evaluate.specs.declared.list.Walk.{Walk}
 use Rattle.evaluate.specs.Walk.{TokenStart, Walking}
-
--- what is lent to whatever enciphers: the T-tables, and the schedule of π's fixed key
-pub record Lent (t k : List ℕ) : Type 0 where
-  pub is-t : IsTTables t
-  pub is-k : k ≡ keyExpansion fixedKey
 
 -- ---- the walk's steps
 

@@ -5,7 +5,7 @@
 // material's header and length. If these are then found right, and every row record before the last gate's was right too, pass 1
 // checks the last gate only; if one was not, pass 1 starts at the first gate and finds the fault that is to be told.
 // All is decided here; `walk_gates` below only hands over one record after the other, in a loop for each pass.
-// Whatever enciphers is lent the T-tables t and the schedule w of π's fixed key.
+// Whatever enciphers is lent the T-tables and the schedule w of π's fixed key.
 ghost use mathlib.Core.Path.{_≡_};
 ghost use Prim.Native.Nat.{_+_, _*_, _≤_, _<_};
 ghost use lib.ListN.{getD};
@@ -13,7 +13,8 @@ ghost use Rattle.model.specs.Circuit.{kindOf, charge};
 ghost use Rattle.model.specs.Scheme.{recordLength};
 ghost use Rattle.model.specs.Garbling.{schemeOf};
 ghost use Rattle.model.specs.Operations.{evaluatedOf, EvaluateGatesIs};
-ghost use Rattle.evaluate.specs.GateList.{Lent, Ended, GoesTo, Begun, Onward, Few, RowPassed, Tries, Checks, Writes, TriedLeads, TryLeads, CheckedLeads, CheckLeads, WriteLeads};
+ghost use Rattle.aes.specs.Lent.{Lent};
+ghost use Rattle.evaluate.specs.GateList.{Ended, GoesTo, Begun, Onward, Few, RowPassed, Tries, Checks, Writes, TriedLeads, TryLeads, CheckedLeads, CheckLeads, WriteLeads};
 use crate::walk::write_charged;
 use crate::walk::write_free;
 use aes::fixed_schedule;
@@ -266,14 +267,14 @@ fn token_written(k: usize, z: Sizes, there: Cursor, stride: usize, calls: usize)
 
 // Pass 2 at gate g: its token, and its calls of π are added.
 pub fn write_next(
-    t: &[u32; 1024],
+    tables: &[u32; 1024],
     w: &[u8; 176],
     s: Walk,
     g: Gate,
     material: &[u8],
     wires: &mut [u8],
 ) -> Walk
-    requires { ⌜ Writes (now t) (now w) (now material) (now wires) s g ⌝ }
+    requires { ⌜ Writes (now tables) (now w) (now material) (now wires) s g ⌝ }
     ensures { λ r. ⌜ WriteLeads (now (material .entry)) s g (now (wires .entry)) r (now (wires .exit)) ⌝ }
 {
     let k = s.k;
@@ -285,7 +286,7 @@ pub fn write_next(
         write_free(z.n, k, g, wires);
         return token_written(k, z, s.here, stride, calls);
     }
-    let made = write_charged(t, w, scheme, z.n, k, g, material, s.here, wires);
+    let made = write_charged(tables, w, scheme, z.n, k, g, material, s.here, wires);
     token_written(k, z, s.here.past(stride), stride, calls + made)
 }
 
@@ -299,7 +300,7 @@ pub fn finish(s: Walk) -> Evaluated
 // The walk over the records. This function and the next are proved by hand, since both hold a slice of structs (a script of tools/
 // writes each proof): so they only hand on what the functions above decide.
 pub fn walk_gates(
-    t: &[u32; 1024],
+    tables: &[u32; 1024],
     w: &[u8; 176],
     n: u16,
     m: u16,
@@ -308,7 +309,7 @@ pub fn walk_gates(
     material: &[u8],
     wires: &mut [u8],
 ) -> Evaluated
-    requires { ⌜ Lent (now t) (now w) ⌝ }
+    requires { ⌜ Lent (now tables) (now w) ⌝ }
     ensures { λ r. ⌜ EvaluateGatesIs n m (now (gates .entry)) (now (tokens .entry)) (now (material .entry)) (now (wires .entry)) (evaluatedOf r) (now (wires .exit)) ⌝ }
 {
     let mut s = begin(n, m, gates.len(), material);
@@ -322,7 +323,7 @@ pub fn walk_gates(
     }
     while s.pass == 2 {
         let k = s.k;
-        s = write_next(t, w, s, gates[k], material, wires);
+        s = write_next(tables, w, s, gates[k], material, wires);
     }
     finish(s)
 }
@@ -339,7 +340,7 @@ pub fn evaluate_gates(
 ) -> Evaluated
     ensures { λ r. ⌜ EvaluateGatesIs n m (now (gates .entry)) (now (tokens .entry)) (now (material .entry)) (now (wires .entry)) (evaluatedOf r) (now (wires .exit)) ⌝ }
 {
-    let t = t_tables();
+    let tables = t_tables();
     let w = fixed_schedule();
-    walk_gates(&t, &w, n, m, gates, tokens, material, wires)
+    walk_gates(&tables, &w, n, m, gates, tokens, material, wires)
 }

@@ -1,9 +1,8 @@
 // The walk over the gates (01, Operations, evaluate): the tokens of all wires, in the buffer that they are read from.
-// Whatever enciphers is lent the T-tables t and the schedule w of π's fixed key.
+// Whatever enciphers is lent the T-tables and the schedule w of π's fixed key.
 ghost use mathlib.Core.Path.{_≡_};
 ghost use Prim.Native.Nat.{_+_};
-ghost use Rattle.aes.specs.Tables.{IsTTables};
-ghost use Rattle.model.specs.Aes.{keyExpansion, fixedKey};
+ghost use Rattle.aes.specs.Lent.{Lent};
 ghost use Rattle.model.specs.Circuit.{gateAt, kindOf, charge};
 ghost use Rattle.model.specs.Scheme.{recordLength};
 ghost use Rattle.model.specs.Garbling.{schemeOf};
@@ -40,7 +39,7 @@ pub fn write_free(n: usize, k: usize, g: Gate, wires: &mut [u8])
 
 // The same of a charged gate, whose row record stands here. Answers the calls of π made.
 pub fn write_charged(
-    t: &[u32; 1024],
+    tables: &[u32; 1024],
     w: &[u8; 176],
     scheme: u8,
     n: usize,
@@ -50,8 +49,7 @@ pub fn write_charged(
     here: Cursor,
     wires: &mut [u8],
 ) -> usize
-    requires { ⌜ IsTTables (now t) ⌝ }
-    requires { ⌜ now w ≡ keyExpansion fixedKey ⌝ }
+    requires { ⌜ Lent (now tables) (now w) ⌝ }
     requires { ⌜ Operands n k g (now wires) ⌝ }
     requires { ⌜ RecordRoom scheme (here .at) (now material) ⌝ }
     requires { ⌜ charge (kindOf (g .code)) ≡ 1 ⌝ }
@@ -61,7 +59,7 @@ pub fn write_charged(
     let own = Wire((n + k + 1) as u16);
     let a = load(wires, 16 * (g.a.0 as usize - 1));
     let b = load(wires, 16 * (g.b.0 as usize - 1));
-    let made = open_charged(t, w, scheme, own, a, b, material, here.at);
+    let made = open_charged(tables, w, scheme, own, a, b, material, here.at);
     store(wires, place, made.token);
     made.calls
 }
@@ -74,7 +72,7 @@ struct SoFar {
 
 // The token of gate k as the circuit's bytes have it, and what is so far after it: a charged gate adds the calls of π made for it.
 fn write_token_at(
-    t: &[u32; 1024],
+    tables: &[u32; 1024],
     w: &[u8; 176],
     scheme: u8,
     circuit: &[u8],
@@ -84,8 +82,7 @@ fn write_token_at(
     s: SoFar,
     wires: &mut [u8],
 ) -> SoFar
-    requires { ⌜ IsTTables (now t) ⌝ }
-    requires { ⌜ now w ≡ keyExpansion fixedKey ⌝ }
+    requires { ⌜ Lent (now tables) (now w) ⌝ }
     requires { ⌜ OpenStart scheme (now circuit) n k (now material) (s .here .at) (s .calls) (now wires) ⌝ }
     ensures { λ r. ⌜ OpenedTo scheme n k (gateAt (now (circuit .entry)) k) (now (material .entry)) (s .here .at) (s .calls) (now (wires .entry)) (r .here .at) (r .calls) (now (wires .exit)) ⌝ }
 {
@@ -94,7 +91,7 @@ fn write_token_at(
         write_free(n, k, g, wires);
         return s;
     }
-    let made = write_charged(t, w, scheme, n, k, g, material, s.here, wires);
+    let made = write_charged(tables, w, scheme, n, k, g, material, s.here, wires);
     let here = s.here.past(record_length(scheme));
     let calls = s.calls + made;
     SoFar { here, calls }
@@ -103,7 +100,7 @@ fn write_token_at(
 // The tokens of the gates, written after the inputs' tokens, which stand at the front of the buffer. Answers the calls of π made,
 // added up gate by gate.
 pub fn write_tokens(
-    t: &[u32; 1024],
+    tables: &[u32; 1024],
     w: &[u8; 176],
     circuit: &[u8],
     n: usize,
@@ -111,8 +108,7 @@ pub fn write_tokens(
     material: &[u8],
     wires: &mut [u8],
 ) -> usize
-    requires { ⌜ IsTTables (now t) ⌝ }
-    requires { ⌜ now w ≡ keyExpansion fixedKey ⌝ }
+    requires { ⌜ Lent (now tables) (now w) ⌝ }
     requires { ⌜ WalkStart (now circuit) (now material) n q (now wires) ⌝ }
     ensures { λ r. ⌜ WalkedIs (now (circuit .entry)) (now (material .entry)) n (now (wires .entry)) r (now (wires .exit)) ⌝ }
 {
@@ -121,7 +117,7 @@ pub fn write_tokens(
     let mut s = SoFar { here, calls: 0 };
     let mut k: usize = 0;
     while k < q {
-        s = write_token_at(t, w, scheme, circuit, n, k, material, s, wires);
+        s = write_token_at(tables, w, scheme, circuit, n, k, material, s, wires);
         k += 1;
     }
     s.calls
@@ -140,8 +136,8 @@ pub fn evaluate_wires(
     requires { ⌜ WiresStart (now circuit) (now tokens) (now material) n q (now wires) ⌝ }
     ensures { λ r. ⌜ WiresAre (now (circuit .entry)) (now (tokens .entry)) (now (material .entry)) (now (wires .entry)) r (now (wires .exit)) ⌝ }
 {
-    let t = t_tables();
+    let tables = t_tables();
     let w = fixed_schedule();
     copy_front(tokens, wires);
-    write_tokens(&t, &w, circuit, n, q, material, wires)
+    write_tokens(&tables, &w, circuit, n, q, material, wires)
 }

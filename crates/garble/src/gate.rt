@@ -1,8 +1,8 @@
 // A charged gate by value: from the zero tokens of its operands to its own and its rows (01, Scheme 1 to Scheme 3).
 // A free gate's zero token is `scheme::free_zero`.
 ghost use mathlib.Core.Path.{_≡_};
+ghost use Rattle.aes.specs.Lent.{Lent};
 ghost use Rattle.aes.specs.Tables.{IsTTables};
-ghost use Rattle.model.specs.Aes.{keyExpansion, fixedKey};
 ghost use Rattle.model.specs.Circuit.{charged, kindOf};
 ghost use Rattle.model.specs.Garbling.{Known, schemeOf};
 ghost use Rattle.model.specs.Calls.{garbleAsks};
@@ -26,12 +26,12 @@ pub struct GateIn {
 }
 
 // What scheme 1 takes for a gate's zero token: AES under the seed of block g. The other schemes make the token themselves.
-fn fresh_block(m: &[u32; 1024], ws: &[u8; 176], scheme: u8, own: Wire) -> Block
-    requires { ⌜ IsTTables (now m) ⌝ }
+fn fresh_block(tables: &[u32; 1024], ws: &[u8; 176], scheme: u8, own: Wire) -> Block
+    requires { ⌜ IsTTables (now tables) ⌝ }
     ensures { λ r. ⌜ FreshIs (now (ws .entry)) scheme (own .0) (r .bytes) ⌝ }
 {
     if scheme == 1 {
-        seed_block_fast(m, ws, own.0 as usize)
+        seed_block_fast(tables, ws, own.0 as usize)
     } else {
         Block::of_number(0)
     }
@@ -39,7 +39,7 @@ fn fresh_block(m: &[u32; 1024], ws: &[u8; 176], scheme: u8, own: Wire) -> Block
 
 // A charged gate's zero token, its rows, and the calls of π made for them.
 pub fn make_charged(
-    m: &[u32; 1024],
+    tables: &[u32; 1024],
     w: &[u8; 176],
     ws: &[u8; 176],
     plan: Plan,
@@ -48,8 +48,7 @@ pub fn make_charged(
     v: Truth,
     own: Truth,
 ) -> GarbledGate
-    requires { ⌜ IsTTables (now m) ⌝ }
-    requires { ⌜ now w ≡ keyExpansion fixedKey ⌝ }
+    requires { ⌜ Lent (now tables) (now w) ⌝ }
     requires { ⌜ Known (plan .wanted .scheme) ⌝ }
     requires { ⌜ kindOf (g .code) ≡ charged (u .0) (v .0) (own .0) ⌝ }
     ensures { λ r. ⌜ GarbledIs (schemeOf (plan .wanted .scheme)) (garbleAsks (plan .wanted .scheme) (siteAt (now (ws .entry)) (plan .r .bytes) g)) (siteAt (now (ws .entry)) (plan .r .bytes) g) r ⌝ }
@@ -59,7 +58,7 @@ pub fn make_charged(
     let r = plan.r;
     let xa = g.xa;
     let xb = g.xb;
-    let fresh = fresh_block(m, ws, scheme, wire);
+    let fresh = fresh_block(tables, ws, scheme, wire);
     let site = Site {
         r,
         fresh,
@@ -68,5 +67,5 @@ pub fn make_charged(
         xa,
         xb,
     };
-    garble_gate(m, w, scheme, site, u, v, own)
+    garble_gate(tables, w, scheme, site, u, v, own)
 }

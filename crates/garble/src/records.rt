@@ -1,8 +1,7 @@
 // A charged gate, garbled into the buffers: its zero token and its record (01, Material).
 ghost use mathlib.Core.Path.{_≡_};
 ghost use Rattle.model.specs.Bytes.{put};
-ghost use Rattle.aes.specs.Tables.{IsTTables};
-ghost use Rattle.model.specs.Aes.{keyExpansion, fixedKey};
+ghost use Rattle.aes.specs.Lent.{Lent};
 ghost use Rattle.garble.specs.Walk.{WriterRoom, writtenRecord, siteAt, ChargedStart, ChargedIs};
 use crate::gate::GateIn;
 use crate::gate::make_charged;
@@ -59,7 +58,7 @@ pub fn write_record(material: &mut [u8], at: usize, own: Wire, stored: usize, g:
 
 // A charged gate: its zero token goes to a slot of the zeros, its record to a place in the material. Answers the calls of π made.
 pub fn garble_charged(
-    m: &[u32; 1024],
+    tables: &[u32; 1024],
     w: &[u8; 176],
     ws: &[u8; 176],
     plan: Plan,
@@ -72,13 +71,12 @@ pub fn garble_charged(
     zeros: &mut [u8],
     slot: usize,
 ) -> usize
-    requires { ⌜ IsTTables (now m) ⌝ }
-    requires { ⌜ now w ≡ keyExpansion fixedKey ⌝ }
+    requires { ⌜ Lent (now tables) (now w) ⌝ }
     requires { ⌜ ChargedStart (plan .wanted .scheme) (plan .stored) (g .code) (u .0) (v .0) (own .0) (now material) at (now zeros) slot ⌝ }
     ensures { λ r. ⌜ ChargedIs (plan .wanted .scheme) (siteAt (now (ws .entry)) (plan .r .bytes) g) (now (material .entry)) at (now (zeros .entry)) slot (now (material .exit)) (now (zeros .exit)) r ⌝ }
 {
     let wire = g.own;
-    let made = make_charged(m, w, ws, plan, g, u, v, own);
+    let made = make_charged(tables, w, ws, plan, g, u, v, own);
     store(zeros, slot, made.zero);
     write_record(material, at, wire, plan.stored, made);
     made.calls

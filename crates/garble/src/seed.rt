@@ -17,11 +17,11 @@ pub fn seed_block(t: &[u8; 256], w: &[u8; 176], i: usize) -> Block
 }
 
 // The same by the T-tables: for scheme 1's tokens in the gates' loop, one for each charged gate, where garbling spends its time.
-pub fn seed_block_fast(m: &[u32; 1024], w: &[u8; 176], i: usize) -> Block
-    requires { ⌜ IsTTables (now m) ⌝ }
+pub fn seed_block_fast(tables: &[u32; 1024], w: &[u8; 176], i: usize) -> Block
+    requires { ⌜ IsTTables (now tables) ⌝ }
     ensures { λ r. ⌜ r .bytes ≡ cipher (now (w .entry)) (block i) ⌝ }
 {
-    encrypt_fast(m, w, Block::of_number(i as u64))
+    encrypt_fast(tables, w, Block::of_number(i as u64))
 }
 
 // The zero and the one tokens of n inputs, from wire 1 on.

@@ -1,7 +1,5 @@
 // The walk over the gates: each gets its zero token, and a charged one its record (01, Scheme 1 to 3 and Material).
-ghost use mathlib.Core.Path.{_≡_};
-ghost use Rattle.aes.specs.Tables.{IsTTables};
-ghost use Rattle.model.specs.Aes.{keyExpansion, fixedKey};
+ghost use Rattle.aes.specs.Lent.{Lent};
 ghost use Rattle.garble.specs.Walk.{OperandsStart, GateInIs, WalkOf, StepStart, StepIs, GatesStart, GatesIs};
 use crate::gate::GateIn;
 use crate::plan::Plan;
@@ -40,7 +38,7 @@ pub struct Stepped {
 
 // One gate: what it adds to the zeros and to the material, at a place. A free gate makes no call of π.
 pub fn garble_step(
-    m: &[u32; 1024],
+    tables: &[u32; 1024],
     w: &[u8; 176],
     ws: &[u8; 176],
     plan: Plan,
@@ -50,8 +48,7 @@ pub fn garble_step(
     at: usize,
     zeros: &mut [u8],
 ) -> Stepped
-    requires { ⌜ IsTTables (now m) ⌝ }
-    requires { ⌜ now w ≡ keyExpansion fixedKey ⌝ }
+    requires { ⌜ Lent (now tables) (now w) ⌝ }
     requires { ⌜ WalkOf (now circuit) (plan .seed .bytes) (plan .wanted) plan (now ws) ⌝ }
     requires { ⌜ StepStart (now circuit) (plan .seed .bytes) (plan .wanted) k at (now material) (now zeros) ⌝ }
     ensures { λ r. ⌜ StepIs (now (circuit .entry)) (plan .seed .bytes) (plan .wanted) k at (now (material .entry)) (now (zeros .entry)) (r .at) (r .calls) (now (material .exit)) (now (zeros .exit)) ⌝ }
@@ -61,7 +58,20 @@ pub fn garble_step(
     let slot = 16 * (n + k);
     match code_kind(g.code) {
         Kind::Charged(u, v, own) => {
-            let calls = garble_charged(m, w, ws, plan, g, u, v, own, material, at, zeros, slot);
+            let calls = garble_charged(
+                tables,
+                w,
+                ws,
+                plan,
+                g,
+                u,
+                v,
+                own,
+                material,
+                at,
+                zeros,
+                slot,
+            );
             let at = at + plan.stride;
             Stepped { at, calls }
         }
@@ -75,7 +85,7 @@ pub fn garble_step(
 
 // All gates, after the inputs' zero tokens and the material's header. Answers the calls of π made, added up gate by gate.
 pub fn garble_gates(
-    m: &[u32; 1024],
+    tables: &[u32; 1024],
     w: &[u8; 176],
     ws: &[u8; 176],
     plan: Plan,
@@ -84,8 +94,7 @@ pub fn garble_gates(
     material: &mut [u8],
     zeros: &mut [u8],
 ) -> usize
-    requires { ⌜ IsTTables (now m) ⌝ }
-    requires { ⌜ now w ≡ keyExpansion fixedKey ⌝ }
+    requires { ⌜ Lent (now tables) (now w) ⌝ }
     requires { ⌜ WalkOf (now circuit) (plan .seed .bytes) (plan .wanted) plan (now ws) ⌝ }
     requires { ⌜ GatesStart (now circuit) (plan .seed .bytes) (plan .wanted) q (now material) (now zeros) ⌝ }
     ensures { λ r. ⌜ GatesIs (now (circuit .entry)) (plan .seed .bytes) (plan .wanted) (now (material .entry)) (now (zeros .entry)) (now (material .exit)) (now (zeros .exit)) r ⌝ }
@@ -94,7 +103,7 @@ pub fn garble_gates(
     let mut at: usize = 9;
     let mut calls: usize = 0;
     while k < q {
-        let step = garble_step(m, w, ws, plan, circuit, k, material, at, zeros);
+        let step = garble_step(tables, w, ws, plan, circuit, k, material, at, zeros);
         at = step.at;
         calls += step.calls;
         k += 1;

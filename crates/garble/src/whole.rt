@@ -1,7 +1,6 @@
 // A whole garbling, once nothing refuses: the inputs and the header first, then the gates, then the last record.
-ghost use mathlib.Core.Path.{_≡_};
-ghost use Rattle.aes.specs.Tables.{IsTTables};
-ghost use Rattle.model.specs.Aes.{IsSBox, keyExpansion, fixedKey};
+ghost use Rattle.aes.specs.Lent.{Lent};
+ghost use Rattle.model.specs.Aes.{IsSBox};
 ghost use Rattle.garble.specs.Walk.{WalkOf, FrontStart, FrontIs, BodyStart, BodyIs};
 ghost use Rattle.garble.specs.Whole.{WholeStart, WholeIs};
 use crate::last::write_last;
@@ -39,7 +38,7 @@ fn garble_front(
 
 // The gates, and the last record after theirs. Answers the calls of π made.
 fn garble_body(
-    m: &[u32; 1024],
+    tables: &[u32; 1024],
     w: &[u8; 176],
     ws: &[u8; 176],
     plan: Plan,
@@ -48,13 +47,12 @@ fn garble_body(
     material: &mut [u8],
     zeros: &mut [u8],
 ) -> usize
-    requires { ⌜ IsTTables (now m) ⌝ }
-    requires { ⌜ now w ≡ keyExpansion fixedKey ⌝ }
+    requires { ⌜ Lent (now tables) (now w) ⌝ }
     requires { ⌜ WalkOf (now circuit) (plan .seed .bytes) (plan .wanted) plan (now ws) ⌝ }
     requires { ⌜ BodyStart (now circuit) (plan .seed .bytes) (plan .wanted) z (now material) (now zeros) ⌝ }
     ensures { λ r. ⌜ BodyIs (now (circuit .entry)) (plan .seed .bytes) (plan .wanted) (now (material .entry)) (now (zeros .entry)) (now (material .exit)) (now (zeros .exit)) r ⌝ }
 {
-    let calls = garble_gates(m, w, ws, plan, circuit, z.q, material, zeros);
+    let calls = garble_gates(tables, w, ws, plan, circuit, z.q, material, zeros);
     let at = last_start(plan.wanted.scheme, z.p);
     write_last(circuit, z, zeros, material, at);
     calls
@@ -75,11 +73,11 @@ pub fn garble_whole(
     ensures { λ r. ⌜ WholeIs (now (circuit .entry)) (now (seed .entry)) wanted (now (material .entry)) (now (zeros .entry)) (now (ones .entry)) (now (material .exit)) (now (zeros .exit)) (now (ones .exit)) r ⌝ }
 {
     let t = s_box();
-    let m = t_tables();
+    let tables = t_tables();
     let w = fixed_schedule();
     let key = load(seed, 0);
     let ws = expand_key(&t, key);
     let plan = plan_of(&t, &ws, key, wanted, z.n);
     garble_front(&t, &ws, plan, z, material, zeros, ones);
-    garble_body(&m, &w, &ws, plan, circuit, z, material, zeros)
+    garble_body(&tables, &w, &ws, plan, circuit, z, material, zeros)
 }

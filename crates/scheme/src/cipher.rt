@@ -7,8 +7,8 @@ use model::Colour;
 use model::Truth;
 ghost use mathlib.Core.Path.{_≡_};
 ghost use Prim.Native.Nat.{_≤_};
-ghost use Rattle.aes.specs.Tables.{IsTTables};
-ghost use Rattle.model.specs.Aes.{_⊕_, keyExpansion, fixedKey, times, block};
+ghost use Rattle.aes.specs.Lent.{Lent};
+ghost use Rattle.model.specs.Aes.{_⊕_, times, block};
 ghost use Rattle.model.specs.Gax.{dualKey};
 ghost use Rattle.scheme.specs.Garbled.{maskOf, AnswersAre};
 ghost use Rattle.model.specs.HalfGates.{hashBlock, hash};
@@ -52,13 +52,19 @@ fn key_block(a: Block, b: Block, tweak: u64) -> Block
 }
 
 // "E(A,B,T,Z) = π(K) ⊕ K ⊕ Z" (01, Scheme 1): one call of π.
-pub fn dual_key(m: &[u32; 1024], w: &[u8; 176], a: Block, b: Block, tweak: u64, z: Block) -> Block
-    requires { ⌜ IsTTables (now m) ⌝ }
-    requires { ⌜ now w ≡ keyExpansion fixedKey ⌝ }
+pub fn dual_key(
+    tables: &[u32; 1024],
+    w: &[u8; 176],
+    a: Block,
+    b: Block,
+    tweak: u64,
+    z: Block,
+) -> Block
+    requires { ⌜ Lent (now tables) (now w) ⌝ }
     ensures { λ r. ⌜ r .bytes ≡ dualKey (a .bytes) (b .bytes) tweak (z .bytes) ⌝ }
 {
     let k = key_block(a.doubled(), b.quadrupled(), tweak);
-    permute_fast(m, w, k).xor(k.xor(z))
+    permute_fast(tables, w, k).xor(k.xor(z))
 }
 
 // What E or H answers to two that are asked together, and the calls of π made for them.
@@ -71,7 +77,7 @@ pub struct Answers {
 // E of block 0 under a token A with two tokens B, from 2A and the two 4B, which the four rows of a gate share. What is sealed is
 // exclusive-ored in afterwards. Two calls of π.
 pub fn dual_pair(
-    m: &[u32; 1024],
+    tables: &[u32; 1024],
     w: &[u8; 176],
     a: Block,
     b: Block,
@@ -79,13 +85,12 @@ pub fn dual_pair(
     c: Block,
     j: u64,
 ) -> Answers
-    requires { ⌜ IsTTables (now m) ⌝ }
-    requires { ⌜ now w ≡ keyExpansion fixedKey ⌝ }
+    requires { ⌜ Lent (now tables) (now w) ⌝ }
     ensures { λ r. ⌜ AnswersAre (maskOf (a .bytes ⊕ b .bytes ⊕ block i)) (maskOf (a .bytes ⊕ c .bytes ⊕ block j)) r ⌝ }
 {
     let k = key_block(a, b, i);
     let l = key_block(a, c, j);
-    let p = permute_pair(m, w, k, l);
+    let p = permute_pair(tables, w, k, l);
     let x = p.x.xor(k);
     let y = p.y.xor(l);
     Answers { x, y, calls: 2 }
@@ -99,14 +104,13 @@ fn hash_block(x: Block, i: u64) -> Block
 }
 
 // "H(x,i) = π(2x ⊕ i) ⊕ 2x ⊕ i" (01, Scheme 3), of two tokens: two calls of π.
-pub fn hash_pair(m: &[u32; 1024], w: &[u8; 176], x: Block, i: u64, y: Block, j: u64) -> Answers
-    requires { ⌜ IsTTables (now m) ⌝ }
-    requires { ⌜ now w ≡ keyExpansion fixedKey ⌝ }
+pub fn hash_pair(tables: &[u32; 1024], w: &[u8; 176], x: Block, i: u64, y: Block, j: u64) -> Answers
+    requires { ⌜ Lent (now tables) (now w) ⌝ }
     ensures { λ r. ⌜ AnswersAre (hash (x .bytes) i) (hash (y .bytes) j) r ⌝ }
 {
     let k = hash_block(x, i);
     let l = hash_block(y, j);
-    let p = permute_pair(m, w, k, l);
+    let p = permute_pair(tables, w, k, l);
     let x = p.x.xor(k);
     let y = p.y.xor(l);
     Answers { x, y, calls: 2 }

@@ -15,8 +15,8 @@ use model::Truth;
 use model::Wire;
 ghost use mathlib.Core.Path.{_≡_};
 ghost use Prim.Native.Nat.{_+_, _*_, _≤_};
-ghost use Rattle.aes.specs.Tables.{IsTTables};
-ghost use Rattle.model.specs.Aes.{block, quadruple, keyExpansion, fixedKey};
+ghost use Rattle.aes.specs.Lent.{Lent};
+ghost use Rattle.model.specs.Aes.{block, quadruple};
 ghost use Rattle.model.specs.Tokens.{colour};
 ghost use Rattle.model.specs.Gax.{dualKey, carried, tokenOf, valueAt, sealed, rowAt, gax};
 ghost use Rattle.model.specs.Gaxr.{reducedZero, gaxr};
@@ -66,9 +66,8 @@ fn quadrupled(s: Site, d: Colour) -> Block
 
 // E of block 0 under the operands' tokens of colours c,0 and of colours c,1: two calls of π. E of z is this ⊕ z. b and d are four times the
 // second operand's tokens.
-fn masks(m: &[u32; 1024], w: &[u8; 176], s: Site, c: Colour, b: Block, d: Block) -> Answers
-    requires { ⌜ IsTTables (now m) ⌝ }
-    requires { ⌜ now w ≡ keyExpansion fixedKey ⌝ }
+fn masks(tables: &[u32; 1024], w: &[u8; 176], s: Site, c: Colour, b: Block, d: Block) -> Answers
+    requires { ⌜ Lent (now tables) (now w) ⌝ }
     requires { ⌜ c .0 ≤ 1 ⌝ }
     requires { ⌜ b .bytes ≡ quadruple (tokenOf (s .r .bytes) (s .xb .bytes) 0) ⌝ }
     requires { ⌜ d .bytes ≡ quadruple (tokenOf (s .r .bytes) (s .xb .bytes) 1) ⌝ }
@@ -77,7 +76,7 @@ fn masks(m: &[u32; 1024], w: &[u8; 176], s: Site, c: Colour, b: Block, d: Block)
     let a = token_of(s.r, s.xa, c).doubled();
     let i = tweak(s.g, c, Colour(0));
     let j = tweak(s.g, c, Colour(1));
-    dual_pair(m, w, a, b, i, d, j)
+    dual_pair(tables, w, a, b, i, d, j)
 }
 
 // Row 2c+d: the gate's token for its value, sealed by the mask of colours c and d. x is the gate's zero token.
@@ -91,16 +90,15 @@ fn row(s: Site, x: Block, c: Colour, d: Colour, mask: Block) -> Block
 }
 
 // Scheme 1: the zero token is AES under the seed of block g, and there are four rows, of one call of π each.
-pub fn garble_gax(m: &[u32; 1024], w: &[u8; 176], s: Site) -> GarbledGate
-    requires { ⌜ IsTTables (now m) ⌝ }
-    requires { ⌜ now w ≡ keyExpansion fixedKey ⌝ }
+pub fn garble_gax(tables: &[u32; 1024], w: &[u8; 176], s: Site) -> GarbledGate
+    requires { ⌜ Lent (now tables) (now w) ⌝ }
     ensures { λ r. ⌜ GarbledIs (gax dualKey) (sealings (site s)) (site s) r ⌝ }
 {
     let zero = s.fresh;
     let b = quadrupled(s, Colour(0));
     let d = quadrupled(s, Colour(1));
-    let p = masks(m, w, s, Colour(0), b, d);
-    let q = masks(m, w, s, Colour(1), b, d);
+    let p = masks(tables, w, s, Colour(0), b, d);
+    let q = masks(tables, w, s, Colour(1), b, d);
     let row0 = row(s, zero, Colour(0), Colour(0), p.x);
     let row1 = row(s, zero, Colour(0), Colour(1), p.y);
     let row2 = row(s, zero, Colour(1), Colour(0), q.x);
@@ -125,15 +123,14 @@ fn reduced_zero(s: Site, mask: Block) -> Block
 }
 
 // Scheme 2: row 0, of colours 0,0, gives the zero token and is not stored; rows 1 to 3 are. Four calls of π.
-pub fn garble_gaxr(m: &[u32; 1024], w: &[u8; 176], s: Site) -> GarbledGate
-    requires { ⌜ IsTTables (now m) ⌝ }
-    requires { ⌜ now w ≡ keyExpansion fixedKey ⌝ }
+pub fn garble_gaxr(tables: &[u32; 1024], w: &[u8; 176], s: Site) -> GarbledGate
+    requires { ⌜ Lent (now tables) (now w) ⌝ }
     ensures { λ r. ⌜ GarbledIs (gaxr dualKey) (sealings (site s)) (site s) r ⌝ }
 {
     let b = quadrupled(s, Colour(0));
     let d = quadrupled(s, Colour(1));
-    let p = masks(m, w, s, Colour(0), b, d);
-    let q = masks(m, w, s, Colour(1), b, d);
+    let p = masks(tables, w, s, Colour(0), b, d);
+    let q = masks(tables, w, s, Colour(1), b, d);
     let zero = reduced_zero(s, p.x);
     let row0 = row(s, zero, Colour(0), Colour(1), p.y);
     let row1 = row(s, zero, Colour(1), Colour(0), q.x);
@@ -159,17 +156,16 @@ pub fn row_index(a: Block, b: Block) -> usize
 
 // The gate's token, from a row and the tokens held on its operands: one call of π.
 pub fn open_row(
-    m: &[u32; 1024],
+    tables: &[u32; 1024],
     w: &[u8; 176],
     g: Wire,
     a: Block,
     b: Block,
     row: Block,
 ) -> OpenedGate
-    requires { ⌜ IsTTables (now m) ⌝ }
-    requires { ⌜ now w ≡ keyExpansion fixedKey ⌝ }
+    requires { ⌜ Lent (now tables) (now w) ⌝ }
     ensures { λ r. ⌜ OpenedIs (dualKey (a .bytes) (b .bytes) (4 * g .0 + 2 * colour (a .bytes) + colour (b .bytes)) (row .bytes)) (sealingHeld (g .0) (a .bytes) (b .bytes)) r ⌝ }
 {
-    let token = dual_key(m, w, a, b, tweak(g, a.colour(), b.colour()), row);
+    let token = dual_key(tables, w, a, b, tweak(g, a.colour(), b.colour()), row);
     OpenedGate { token, calls: 1 }
 }

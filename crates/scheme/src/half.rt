@@ -10,8 +10,8 @@ use model::Truth;
 use model::Wire;
 ghost use mathlib.Core.Path.{_≡_};
 ghost use Prim.Native.Nat.{_+_, _*_, _-_, _≤_};
-ghost use Rattle.aes.specs.Tables.{IsTTables};
-ghost use Rattle.model.specs.Aes.{keyExpansion, fixedKey, _⊕_, times};
+ghost use Rattle.aes.specs.Lent.{Lent};
+ghost use Rattle.model.specs.Aes.{_⊕_, times};
 ghost use Rattle.model.specs.Circuit.{charged, kindOf};
 ghost use Rattle.model.specs.Tokens.{colour};
 ghost use Rattle.model.specs.HalfGates.{hash, joined, half};
@@ -42,12 +42,11 @@ fn offset_unless(x: Block, r: Block, u: Truth) -> Block
 }
 
 // The row H(x,i) ⊕ H(x⊕R,i) ⊕ z: two calls of π.
-fn half_gate(m: &[u32; 1024], w: &[u8; 176], r: Block, x: Block, i: u64, z: Block) -> HalfGate
-    requires { ⌜ IsTTables (now m) ⌝ }
-    requires { ⌜ now w ≡ keyExpansion fixedKey ⌝ }
+fn half_gate(tables: &[u32; 1024], w: &[u8; 176], r: Block, x: Block, i: u64, z: Block) -> HalfGate
+    requires { ⌜ Lent (now tables) (now w) ⌝ }
     ensures { λ h. ⌜ HalfIs (r .bytes) (x .bytes) i (z .bytes) h ⌝ }
 {
-    let h = hash_pair(m, w, x, i, x.xor(r), i);
+    let h = hash_pair(tables, w, x, i, x.xor(r), i);
     let hashed = h.x;
     let row = hashed.xor(h.y.xor(z));
     let calls = h.calls;
@@ -65,15 +64,14 @@ fn join(ha: Block, hb: Block, g: Block, e: Block, a: Block, b: Block) -> Block
 
 // Scheme 3: the rows G and E, by four calls of π. The pair u, v of truth values has a value of its own, own.
 pub fn garble_half(
-    m: &[u32; 1024],
+    tables: &[u32; 1024],
     w: &[u8; 176],
     s: Site,
     u: Truth,
     v: Truth,
     own: Truth,
 ) -> GarbledGate
-    requires { ⌜ IsTTables (now m) ⌝ }
-    requires { ⌜ now w ≡ keyExpansion fixedKey ⌝ }
+    requires { ⌜ Lent (now tables) (now w) ⌝ }
     requires { ⌜ kindOf (s .code) ≡ charged (u .0) (v .0) (own .0) ⌝ }
     ensures { λ r. ⌜ GarbledIs (half hash) (hashings (site s)) (site s) r ⌝ }
 {
@@ -83,8 +81,8 @@ pub fn garble_half(
     let b = offset_unless(s.xb, r, v);
     let j = 2 * (s.g.0 as u64);
     let k = j + 1;
-    let generator = half_gate(m, w, r, a, j, times_colour(r, b.colour()));
-    let evaluator = half_gate(m, w, r, b, k, a);
+    let generator = half_gate(tables, w, r, a, j, times_colour(r, b.colour()));
+    let evaluator = half_gate(tables, w, r, b, k, a);
     let row_g = generator.row;
     let row_e = evaluator.row;
     let x = join(generator.hashed, evaluator.hashed, row_g, row_e, a, b);
@@ -102,7 +100,7 @@ pub fn garble_half(
 
 // The gate's token, from the rows G and E and the tokens held on its operands: two calls of π.
 pub fn open_half(
-    m: &[u32; 1024],
+    tables: &[u32; 1024],
     w: &[u8; 176],
     g: Wire,
     rg: Block,
@@ -110,13 +108,12 @@ pub fn open_half(
     a: Block,
     b: Block,
 ) -> OpenedGate
-    requires { ⌜ IsTTables (now m) ⌝ }
-    requires { ⌜ now w ≡ keyExpansion fixedKey ⌝ }
+    requires { ⌜ Lent (now tables) (now w) ⌝ }
     ensures { λ r. ⌜ OpenedIs (joined hash (g .0) (rg .bytes) (re .bytes) (a .bytes) (b .bytes)) (hashingsHeld (g .0) (a .bytes) (b .bytes)) r ⌝ }
 {
     let j = 2 * (g.0 as u64);
     let k = j + 1;
-    let h = hash_pair(m, w, a, j, b, k);
+    let h = hash_pair(tables, w, a, j, b, k);
     let token = join(h.x, h.y, rg, re, a, b);
     let calls = h.calls;
     OpenedGate { token, calls }

@@ -1,5 +1,5 @@
 // One gate, garbled and opened, by each of the three schemes (01, Tokens and Scheme 1 to Scheme 3).
-// Whatever enciphers is lent the tables m of AES and the schedule w of π's fixed key.
+// Whatever enciphers is lent the T-tables of AES and the schedule w of π's fixed key.
 mod cipher; // the dual-key cipher, the hash, and a bit times a block
 mod free; // free gates
 mod gax; // schemes 1 and 2
@@ -23,8 +23,7 @@ use model::Truth;
 use model::Wire;
 pub use rows::open_charged;
 ghost use mathlib.Core.Path.{_≡_};
-ghost use Rattle.aes.specs.Tables.{IsTTables};
-ghost use Rattle.model.specs.Aes.{keyExpansion, fixedKey};
+ghost use Rattle.aes.specs.Lent.{Lent};
 ghost use Rattle.model.specs.Circuit.{charged, kindOf};
 ghost use Rattle.model.specs.Garbling.{Known, schemeOf};
 ghost use Rattle.model.specs.Calls.{garbleAsks};
@@ -59,7 +58,7 @@ pub struct OpenedGate {
 
 // A charged gate, garbled by the scheme of a scheme byte. The pair u, v of truth values has a value of its own, own.
 pub fn garble_gate(
-    m: &[u32; 1024],
+    tables: &[u32; 1024],
     w: &[u8; 176],
     scheme: u8,
     s: Site,
@@ -67,15 +66,14 @@ pub fn garble_gate(
     v: Truth,
     own: Truth,
 ) -> GarbledGate
-    requires { ⌜ IsTTables (now m) ⌝ }
-    requires { ⌜ now w ≡ keyExpansion fixedKey ⌝ }
+    requires { ⌜ Lent (now tables) (now w) ⌝ }
     requires { ⌜ Known scheme ⌝ }
     requires { ⌜ kindOf (s .code) ≡ charged (u .0) (v .0) (own .0) ⌝ }
     ensures { λ r. ⌜ GarbledIs (schemeOf scheme) (garbleAsks scheme (site s)) (site s) r ⌝ }
 {
     match scheme {
-        1 => garble_gax(m, w, s),
-        2 => garble_gaxr(m, w, s),
-        _ => garble_half(m, w, s, u, v, own),
+        1 => garble_gax(tables, w, s),
+        2 => garble_gaxr(tables, w, s),
+        _ => garble_half(tables, w, s, u, v, own),
     }
 }

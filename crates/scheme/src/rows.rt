@@ -2,8 +2,8 @@
 ghost use mathlib.Core.Path.{_≡_};
 ghost use mathlib.Core.List.{_∷_};
 ghost use lib.ListN.{getD, drop};
-ghost use Rattle.aes.specs.Tables.{IsTTables};
-ghost use Rattle.model.specs.Aes.{keyExpansion, fixedKey, block};
+ghost use Rattle.aes.specs.Lent.{Lent};
+ghost use Rattle.model.specs.Aes.{block};
 ghost use Rattle.model.specs.Garbling.{schemeOf};
 ghost use Rattle.model.specs.Evaluation.{cut};
 ghost use Rattle.model.specs.Calls.{evaluateAsks};
@@ -43,7 +43,7 @@ fn held_row(scheme: u8, material: &[u8], first: usize, i: usize) -> Block
 // The token of charged gate g, whose record stands at an index, and the calls of π made. Schemes 1 and 2 load the one row that the
 // colours point at.
 pub fn open_charged(
-    m: &[u32; 1024],
+    tables: &[u32; 1024],
     w: &[u8; 176],
     scheme: u8,
     g: Wire,
@@ -52,8 +52,7 @@ pub fn open_charged(
     material: &[u8],
     at: usize,
 ) -> OpenedGate
-    requires { ⌜ IsTTables (now m) ⌝ }
-    requires { ⌜ now w ≡ keyExpansion fixedKey ⌝ }
+    requires { ⌜ Lent (now tables) (now w) ⌝ }
     requires { ⌜ RecordRoom scheme at (now material) ⌝ }
     ensures { λ r. ⌜ OpenedIs (schemeOf scheme .opened (g .0) (cut (schemeOf scheme .stored) (drop 4 (drop at (now (material .entry))))) (a .bytes) (b .bytes)) (evaluateAsks scheme (g .0) (a .bytes) (b .bytes)) r ⌝ }
 {
@@ -61,8 +60,8 @@ pub fn open_charged(
     if scheme == 3 {
         let rg = load(material, first);
         let re = load(material, first + 16);
-        return open_half(m, w, g, rg, re, a, b);
+        return open_half(tables, w, g, rg, re, a, b);
     }
     let row = held_row(scheme, material, first, row_index(a, b));
-    open_row(m, w, g, a, b, row)
+    open_row(tables, w, g, a, b, row)
 }

@@ -22,7 +22,7 @@ returns : tie.Need-returns Inv-loop μ-loop
 returns c =
     let l = c .before .before in
     let start = l .before in
-    by-fixed-key _ _ _ (rounds-end (l .loop .inv) (omega arith) (c .last-round .ensures) _ (start .start .ensures)) (start .before .pre .1)
+    by-fixed-key _ _ _ (rounds-end (l .loop .inv) (omega arith) (c .last-round .ensures) _ (start .start .ensures)) (start .before .pre .is-schedule)
 
 pub permute-fast-spec : {M : Type 1} → statement M
 permute-fast-spec =

@@ -59,7 +59,7 @@ use Rattle.aes.proofs.fixed_schedule as schedule
 use Rattle.aes.proofs.fixed_schedule.Symbol as schedule-def
 use Rattle.aes.proofs.fixed_schedule.Symbol.{name as #schedule}
 use Rattle.aes.proofs.fixed_schedule.Met as schedule-thm
-use Rattle.evaluate.specs.GateList.{Lent}
+use Rattle.aes.specs.Lent.{Lent}
 use Rattle.evaluate.proofs.LentArray.{arrayTy, refTy, array-of, array-val, same-array, lentAt, array-typed, into-part, from-part}
 use Rattle.evaluate.proofs.list.walk_gates as walk
 use Rattle.evaluate.proofs.list.walk_gates.Symbol as walk-def
@@ -237,7 +237,7 @@ module _ {M : Type 1} (𝓤 : URA M) (H : Heap 𝓤) (A : Atoms 𝓤) (W : Given
 
     goes-walk : IsTTables tables → keys ≡ keyExpansion fixedKey → ent 𝓤 (⋆ 𝓤 H A (Asked ∷ [])) (Walks-over 𝓤 H A mem run .pre to-walk)
     goes-walk is-t is-k =
-        qed W (Asked ∷ []) ∵ says ! (record { is-t = is-t; is-k = is-k }) $
+        qed W (Asked ∷ []) ∵ says ! (record { is-tables = is-t; is-schedule = is-k }) $
         split ! $
         move ! (1 ∷ []) $
         split ! $

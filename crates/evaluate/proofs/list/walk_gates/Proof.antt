@@ -66,7 +66,8 @@ use Rattle.model.proofs.Evaluated as E
 use Rattle.model.proofs.Evaluated.Laws as E′
 use Rattle.model.proofs.Records.{noGate, GateFits}
 use Rattle.evaluate.specs.declared.list.Walk.{Walk}
-use Rattle.evaluate.specs.GateList.{Lent, Begun, Tries, Checks, Writes, TryLeads, CheckLeads, WriteLeads}
+use Rattle.aes.specs.Lent.{Lent}
+use Rattle.evaluate.specs.GateList.{Begun, Tries, Checks, Writes, TryLeads, CheckLeads, WriteLeads}
 use Rattle.evaluate.proofs.list.Walk as S
 use Rattle.evaluate.proofs.list.Walk.Laws as S′
 use Rattle.evaluate.proofs.GoodWalk as G

@@ -7,4 +7,4 @@ pub evaluate-wires-spec : {M : Type 1} → statement M
 evaluate-wires-spec =
     tie.close
     (tie.spec (λ c κs. search needs) (λ c κs. search needs) (λ c κs. search needs)
-    (λ c κs. (search needs, (search needs, search wires-cases))) (λ c. search needs) (λ c. search wires-cases))
+    (λ c κs. (record { is-tables = search needs; is-schedule = search needs }, search wires-cases)) (λ c. search needs) (λ c. search wires-cases))

@@ -15,5 +15,5 @@ pub write-tokens-spec : {M : Type 1} → statement M
 write-tokens-spec =
     tie.close
     (tie.spec Inv-loop μ-loop (λ c. search walk-turns) (λ c κs. search needs) (λ c. search walk-turns)
-    (λ c κs. (search needs, (search needs, search walk-turns))) (λ c. search needs)
+    (λ c κs. (search needs, search walk-turns)) (λ c. search needs)
     (λ c. search needs) (λ c. search walk-turns) (λ c. search needs) (λ c. search walk-turns))

@@ -14,6 +14,6 @@ abbrev μ-loop : tie.MeasureT-loop
 pub garble-gates-spec : {M : Type 1} → statement M
 garble-gates-spec =
     tie.close
-    (tie.spec Inv-loop μ-loop (λ c. search walk-cases) (λ c κs. (search needs, (search needs, (search needs, search (walk-cases, needs)))))
+    (tie.spec Inv-loop μ-loop (λ c. search walk-cases) (λ c κs. (search needs, (search needs, search (walk-cases, needs))))
     (λ c. search (walk-cases, needs)) (λ c. search needs) (λ c. search needs) (λ c. search (walk-cases, needs)) (λ c. search needs)
     (λ c. search needs) (λ c. search walk-cases))

@@ -16,13 +16,10 @@ garble-body-requires c κs =
     let loaded = expanded .before .before in
     let tables = loaded .before .before in
     let pre = tables .before .before .before .before .before .before .before .pre in (
-      tables .t-tables .ensures,
+      record { is-tables = tables .t-tables .ensures; is-schedule = loaded .before .fixed-schedule .ensures },
       (
-        loaded .before .fixed-schedule .ensures,
-        (
-          whole-walk _ _ _ _ _ _ _ pre _ _ _ (loaded .load .ensures) (expanded .expand-key .ensures) (planned .plan-of .ensures),
-          whole-body _ _ _ _ _ _ _ pre _ _ _ (loaded .load .ensures) (expanded .expand-key .ensures) (planned .plan-of .ensures) _ _ _ (front .garble-front .ensures),
-        ),
+        whole-walk _ _ _ _ _ _ _ pre _ _ _ (loaded .load .ensures) (expanded .expand-key .ensures) (planned .plan-of .ensures),
+        whole-body _ _ _ _ _ _ _ pre _ _ _ (loaded .load .ensures) (expanded .expand-key .ensures) (planned .plan-of .ensures) _ _ _ (front .garble-front .ensures),
       ),
     )
 

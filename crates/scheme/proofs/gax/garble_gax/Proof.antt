@@ -19,5 +19,5 @@ returns c =
 pub garble-gax-spec : {M : Type 1} → statement M
 garble-gax-spec =
     tie.close
-    (tie.spec (λ c κs. search needs) (λ c κs. search needs) (λ c κs. (search needs, (search needs, (search needs, (search needs, search needs))))) (λ c κs. (search needs, (search needs, (search needs, (search needs, search needs)))))
+    (tie.spec (λ c κs. search needs) (λ c κs. search needs) (λ c κs. (search needs, (search needs, (search needs, search needs)))) (λ c κs. (search needs, (search needs, (search needs, search needs))))
     (λ c κs. search needs) (λ c κs. search needs) (λ c κs. search needs) (λ c κs. search needs) add returns)

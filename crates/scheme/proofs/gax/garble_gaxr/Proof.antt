@@ -23,5 +23,5 @@ returns c =
 pub garble-gaxr-spec : {M : Type 1} → statement M
 garble-gaxr-spec =
     tie.close
-    (tie.spec (λ c κs. search needs) (λ c κs. search needs) (λ c κs. (search needs, (search needs, (search needs, (search needs, search needs))))) (λ c κs. (search needs, (search needs, (search needs, (search needs, search needs)))))
+    (tie.spec (λ c κs. search needs) (λ c κs. search needs) (λ c κs. (search needs, (search needs, (search needs, search needs)))) (λ c κs. (search needs, (search needs, (search needs, search needs))))
     zero-mask (λ c κs. search needs) (λ c κs. search needs) (λ c κs. search needs) (λ c κs. search needs) add returns)

@@ -15,8 +15,8 @@ returns c =
     let twice = a .doubled .ensures ∙ ap double (token .token-of .ensures) in
     let start = token .before in
     record {
-      is-x = mask-is _ _ _ _ _ _ _ (c .dual-pair .ensures .is-x) twice (start .pre .1 .1 .1 .0) (i .tweak .ensures);
-      is-y = mask-is _ _ _ _ _ _ _ (c .dual-pair .ensures .is-y) twice (start .pre .1 .1 .1 .1) (c .before .tweak2 .ensures);
+      is-x = mask-is _ _ _ _ _ _ _ (c .dual-pair .ensures .is-x) twice (start .pre .1 .1 .0) (i .tweak .ensures);
+      is-y = mask-is _ _ _ _ _ _ _ (c .dual-pair .ensures .is-y) twice (start .pre .1 .1 .1) (c .before .tweak2 .ensures);
       is-calls = c .dual-pair .ensures .is-calls;
     }
 

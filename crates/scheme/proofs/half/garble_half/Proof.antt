@@ -7,7 +7,7 @@ use Rattle.scheme.proofs.half.garble_half.Tie as tie
 own-bit : tie.Need-offset-unless-requires-3
 own-bit c κs =
     let start = c .before .before .before .before .before .before .before .before .before .before .before .before in
-    own-low _ _ _ _ (start .pre .1 .1)
+    own-low _ _ _ _ (start .pre .1)
 
 -- the calls of the two half-gates
 add : tie.Need-add-t23
@@ -22,7 +22,7 @@ returns c =
     let e = j .before .before .before in
     let d = e .before .before .before in
     let a = d .before .before .before in
-    half-garbled _ _ _ _ (a .before .before .before .pre .1 .1) _ _ (a .offset-unless .ensures) (d .before .before .offset-unless2 .ensures) _ (d .colour .ensures)
+    half-garbled _ _ _ _ (a .before .before .before .pre .1) _ _ (a .offset-unless .ensures) (d .before .before .offset-unless2 .ensures) _ (d .colour .ensures)
     _ (e .before .before .times-colour .ensures) _ _ (e .before .half-gate .ensures) (e .half-gate2 .ensures) _ (j .join .ensures) _ (none .before .offset-unless3 .ensures) _
 
 pub garble-half-spec : {M : Type 1} → statement M
