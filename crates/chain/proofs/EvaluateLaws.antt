@@ -38,8 +38,7 @@ module _ (c : List ℕ) (s : Sizes) (t : List ℕ) (start : EvaluateHanded c s t
           let a = then-fine _ _ (rw (evaluate-verdict c (take (16 * s .n) t) f (length w)) at (told .is-fine)) .1 in
           let room = rest-holds c (inputs c) _ f _ _ a .roomy in
           record {
-            accepted = start .sized .accepted;
-            sizes = start .sized .sizes;
+            sized = start .sized;
             all-wires =
                 rw (answers .left, told .is-fine)
                 (omega (arith, room, over-long (evaluateBytes (circuitOf c) (take (16 * s .n) t) f) w));

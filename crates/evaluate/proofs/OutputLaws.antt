@@ -1,7 +1,7 @@
 -- `output_tokens`: that the part lies within the tokens of all wires, and is the outputs'. Assumes nothing.
-use Prim.Native.Nat.{ℕ, _+_, _*_, _-_, _≤_, _<_}
+use Prim.Native.Nat.{ℕ, _+_, _*_, _-_, _≤_}
 use native.Mathlib.Omega.{arith}
-use mathlib.Core.Path.{_≡_, sym, ap, _∙_}
+use mathlib.Core.Path.{_≡_, sym, _∙_}
 use mathlib.Core.List.{List}
 use lib.ListN.{length, getD, take, drop}
 use mir.Syntax.{w64}
@@ -9,22 +9,21 @@ use mir.Val.{Fits}
 use Rattle.model.specs.declared.Sizes.{Sizes}
 use Rattle.model.specs.Circuit.{circuitOf, inputs, outputs, gates}
 use Rattle.model.specs.Evaluation.{outputTokens}
-use Rattle.model.specs.Operations.{sizesOf}
 use Rattle.model.proofs.Outputs as O
-use Rattle.model.proofs.Accepted.{SizesHold, accepted-header}
+use Rattle.model.proofs.Accepted.{SizesHold}
+use Rattle.circuit.proofs.AcceptedLaws as Sized
 use Rattle.circuit.specs.Outputs.{OutputStart}
 use Rattle.evaluate.specs.Outputs.{OutputsStart}
 
 module _ (c : List ℕ) (z : Sizes) (w : List ℕ) (start : OutputsStart c z w) where
   limits : SizesHold (inputs c) (outputs c) (gates c)
-  limits = accepted-header c (start .accepted) .sizes
+  limits = Sized.limits c z (start .sized) .sizes
 
   is-m : z .m ≡ outputs c
-  unfolding sizesOf
-  is-m = ap (λ (x : Sizes). x .m) (start .sizes)
+  is-m = Sized.is-m c z (start .sized)
 
   pub tokens-first : OutputStart c z 0
-  tokens-first = record { sized = record { accepted = start .accepted; sizes = start .sizes }; more = limits .m-low }
+  tokens-first = record { sized = start .sized; more = limits .m-low }
 
   pub tokens-fit : Fits w64 (16 * z .m)
   tokens-fit = omega (arith, is-m, limits .m-high, limits .sum)

@@ -10,33 +10,33 @@ use buffer::write16;
 use model::Wire;
 
 // The header: mark 47 48, the scheme byte, and n, m, q of 2 bytes each.
-pub fn write_header(out: &mut [u8], scheme: u8, n: usize, m: usize, q: usize)
-    requires { ⌜ 9 ≤ length (now out) ⌝ }
-    ensures { λ _. ⌜ now (out .exit) ≡ over (0x47 ∷ 0x48 ∷ scheme ∷ two n ++ two m ++ two q) (now (out .entry)) ⌝ }
+pub fn write_header(material: &mut [u8], scheme: u8, n: usize, m: usize, q: usize)
+    requires { ⌜ 9 ≤ length (now material) ⌝ }
+    ensures { λ _. ⌜ now (material .exit) ≡ over (0x47 ∷ 0x48 ∷ scheme ∷ two n ++ two m ++ two q) (now (material .entry)) ⌝ }
 {
     let head = [0x47, 0x48, scheme];
-    copy_front(&head, out);
-    write16(out, 3, n);
-    write16(out, 5, m);
-    write16(out, 7, q);
+    copy_front(&head, material);
+    write16(material, 3, n);
+    write16(material, 5, m);
+    write16(material, 7, q);
 }
 
 // The head of a charged gate's record: mark 47 54 and the gate's own wire number. Its rows come after it.
-pub fn write_record_head(out: &mut [u8], at: usize, own: Wire)
-    requires { ⌜ at + 4 ≤ length (now out) ⌝ }
-    ensures { λ _. ⌜ now (out .exit) ≡ put (now (out .entry)) at (0x47 ∷ 0x54 ∷ two (own .0)) ⌝ }
+pub fn write_record_head(material: &mut [u8], at: usize, own: Wire)
+    requires { ⌜ at + 4 ≤ length (now material) ⌝ }
+    ensures { λ _. ⌜ now (material .exit) ≡ put (now (material .entry)) at (0x47 ∷ 0x54 ∷ two (own .0)) ⌝ }
 {
     let wire = own.0;
     let head = [0x47, 0x54];
-    copy_to(&head, out, at);
-    write16(out, at + 2, wire as usize);
+    copy_to(&head, material, at);
+    write16(material, at + 2, wire as usize);
 }
 
 // The head of the last record: mark 47 44. A byte for each output comes after it.
-pub fn write_last_head(out: &mut [u8], at: usize)
-    requires { ⌜ at + 2 ≤ length (now out) ⌝ }
-    ensures { λ _. ⌜ now (out .exit) ≡ put (now (out .entry)) at (0x47 ∷ 0x44 ∷ []) ⌝ }
+pub fn write_last_head(material: &mut [u8], at: usize)
+    requires { ⌜ at + 2 ≤ length (now material) ⌝ }
+    ensures { λ _. ⌜ now (material .exit) ≡ put (now (material .entry)) at (0x47 ∷ 0x44 ∷ []) ⌝ }
 {
     let head = [0x47, 0x44];
-    copy_to(&head, out, at);
+    copy_to(&head, material, at);
 }
