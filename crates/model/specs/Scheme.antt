@@ -18,6 +18,6 @@ pub record Scheme : Type 0 where
   pub rows : Site → List Block  -- its rows, in the material's order
   pub opened : ℕ → List Block → Block → Block → Block  -- evaluation at wire g, from the rows and the tokens held on a and b
 
--- "mark 47 54, its wire number (2 bytes), its r rows" (01, "Material"): the bytes of a charged gate's record
+-- "mark 47 54, its wire number (2 bytes), its r rows (r = 4, 3, 2" (01, "Material"): the bytes of a charged gate's record
 unfoldable pub recordLength : Scheme → ℕ
 recordLength S = 4 + 16 * S .stored
