@@ -2,6 +2,7 @@
 mod sbox; // the S-box
 mod steps; // the state, and the steps of a round
 mod schedule; // key expansion
+mod fixed; // the schedule of π's key
 mod cipher; // the rounds
 mod lookup; // SubBytes and MixColumns as tables
 mod packed; // the steps of a round by the tables
@@ -16,8 +17,8 @@ pub use fast::encrypt_fast;
 pub use fast::encrypt_pair;
 pub use fast::permute_fast;
 pub use fast::permute_pair;
+pub use fixed::fixed_schedule;
 pub use lookup::t_tables;
 pub use sbox::s_box;
 pub use schedule::expand_key;
-pub use schedule::fixed_schedule;
 pub use steps::State;

@@ -1,7 +1,7 @@
 use mathlib.Core.Path.{refl}
 use Rattle.model.specs.Aes.{xtime, mulBits, gmul, squares, inverse, bit, affineBit, affineBits, sBox, subWord, rcon, temp, nextWord, expandBy, keyExpansion, fixedKey}
-use Rattle.aes.proofs.schedule.fixed_schedule.Statement.{statement}
-use Rattle.aes.proofs.schedule.fixed_schedule.Tie as tie
+use Rattle.aes.proofs.fixed.fixed_schedule.Statement.{statement}
+use Rattle.aes.proofs.fixed.fixed_schedule.Tie as tie
 
 returns : tie.Need-returns
 unfolding xtime mulBits gmul squares inverse bit affineBit affineBits sBox subWord rcon temp nextWord expandBy keyExpansion fixedKey
