@@ -85,9 +85,13 @@ impl Key {
         Key { round_keys }
     }
 
-    /// The eleven round keys, in order.
-    pub fn round_keys(&self) -> &[[u8; BLOCK]] {
-        &self.round_keys
+    /// The 44 words of the schedule, in order: each round key has four.
+    pub fn words(&self) -> Vec<[u8; 4]> {
+        let bytes = self.round_keys.as_flattened();
+        bytes
+            .chunks_exact(4)
+            .map(|w| [w[0], w[1], w[2], w[3]])
+            .collect()
     }
 
     /// Cipher of FIPS 197, section 5.1.

@@ -8,11 +8,13 @@ use second::vectors::files;
 const TOP: &str = concat!(env!("CARGO_MANIFEST_DIR"), "/..");
 
 /// Written by hand, from FIPS 197, RFC 4493 and 01's table.
-const BY_HAND: [&str; 4] = [
+const BY_HAND: [&str; 6] = [
     "doubling",
     "examples",
     "fips197-encryption",
+    "fips197-fixed-key",
     "fips197-key-expansion",
+    "fips197-words",
 ];
 
 /// The functions that encipher under any key: FIPS 197's vectors run through each.
@@ -23,10 +25,14 @@ const ENCRYPTIONS: [&str; 4] = [
     " by encrypt_pair, second block",
 ];
 
+/// What makes the schedule of π's key, and what holds it.
+const FIXED_SCHEDULES: [&str; 2] = [" by expand_key", " by fixed_schedule"];
+
 /// The lines due for a file of so many cases.
 fn lines_due(name: &str, cases: usize) -> Vec<String> {
     let ways: &[&str] = match name {
         "fips197-encryption" => &ENCRYPTIONS,
+        "fips197-fixed-key" => &FIXED_SCHEDULES,
         _ => &[""],
     };
     let line = |way| format!("{name}{way}: {cases} of {cases} agree");

@@ -5,6 +5,7 @@ use aes::encrypt;
 use aes::encrypt_fast;
 use aes::encrypt_pair;
 use aes::expand_key;
+use aes::fixed_schedule;
 use aes::s_box;
 use aes::t_tables;
 use block::Block;
@@ -12,6 +13,7 @@ use buffer::read16;
 use cases::answer::done_sizes;
 use cases::answer::ran;
 use cases::answer::refused;
+use cases::answer::short_at;
 use cases::room;
 use check::same;
 use model::Checked;
@@ -76,6 +78,28 @@ fn expansion(key: &[u8], schedule: &[u8]) -> bool {
     same(&w, schedule)
 }
 
+// Key, i of 2 bytes, and word i of its schedule: the 4 bytes from 4i on.
+fn expansion_word(key: &[u8], index: &[u8], word: &[u8]) -> bool {
+    if index.len() != 2 {
+        return false;
+    }
+    let i = short_at(index, 0);
+    if 43 < i {
+        return false;
+    }
+    let t = s_box();
+    let w = expand_key(&t, block_of(key));
+    let at = 4 * i;
+    let end = at + 4;
+    same(&w[at..end], word)
+}
+
+// The schedule of π's key, against the constant.
+fn fixed_expansion(schedule: &[u8]) -> bool {
+    let w = fixed_schedule();
+    same(&w, schedule)
+}
+
 // A, 2A, 4A.
 fn doubling(a: &[u8], twice: &[u8], four: &[u8]) -> bool {
     let x = block_of(a);
@@ -137,7 +161,8 @@ pub fn pick_run<'a>(
 }
 
 // By group: 1 encryption, 2 key expansion, 3 doubling, 4 check, 5 plain, 7 encode, 8 pick, 10 evaluate,
-// 11 decode, 12 the chain, 14 encryption by tables, 15 and 16 as the first and the second block of a pair.
+// 11 decode, 12 the chain, 14 encryption by tables, 15 and 16 as the first and the second block of a pair, 17 key expansion word by
+// word, 18 the schedule of π's key.
 pub fn agrees<'a>(
     group: u8,
     a: &'a [u8],
@@ -160,6 +185,8 @@ pub fn agrees<'a>(
         14 => encryption_fast(a, b, c),
         15 => encryption_first(a, b, c),
         16 => encryption_second(a, b, c),
+        17 => expansion_word(a, b, c),
+        18 => fixed_expansion(b),
         _ => single_run(group, a, b, c, d, d, e, f),
     }
 }

@@ -32,6 +32,9 @@ fn run_outside() {
     run_by(15, b"fips197-encryption", b" by encrypt_pair, first block");
     run_by(16, b"fips197-encryption", b" by encrypt_pair, second block");
     run_file(2, b"fips197-key-expansion");
+    run_file(17, b"fips197-words");
+    run_by(2, b"fips197-fixed-key", b" by expand_key");
+    run_by(18, b"fips197-fixed-key", b" by fixed_schedule");
     run_file(3, b"doubling");
     run_file(4, b"examples");
 }
