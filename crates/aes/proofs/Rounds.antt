@@ -3,7 +3,9 @@ use mathlib.Core.Path.{_≡_, sym, ap, _∙_}
 use mathlib.Core.List.{List}
 use Prim.Native.Nat.{ℕ, suc, _+_, _-_, _<_, _≤_}
 use native.Mathlib.Omega.{arith}
-use Rattle.model.specs.Aes.{Block, subBytes, shiftRows, mixColumns, addRoundKey, aesRound, rounds, cipher, keyExpansion, fixedKey, aes, π}
+use lib.ListN.{length}
+use Rattle.model.specs.Aes.{Block, subBytes, shiftRows, mixColumns, addRoundKey, aesRound, rounds, cipher, IsExpansion, keyExpansion, fixedKey, aes, π}
+use Rattle.model.proofs.Expansion.{expansion-only}
 
 -- what holds of the state s before round r, when s₀ was the state before round 1: it is made from any block b that the first AddRoundKey takes
 -- to s₀
@@ -40,9 +42,9 @@ unfolding aes π
 by-fixed-key w b z e h = e ∙ ap (λ (k : List ℕ). cipher k b) h
 
 -- the same under any key
-pub by-key : (key : Block) (w : List ℕ) (b z : Block) → z ≡ cipher w b → w ≡ keyExpansion key → z ≡ aes key b
+pub by-key : {key : Block} {w : List ℕ} (b : Block) {z : Block} → z ≡ cipher w b → length key ≡ 16 → IsExpansion key w → z ≡ aes key b
 unfolding aes
-by-key key w b z e h = e ∙ ap (λ (k : List ℕ). cipher k b) h
+by-key b e l x = e ∙ ap (λ (k : List ℕ). cipher k b) (expansion-only l x)
 
 -- ---- a round from its steps: a, b and c are the states between them
 

@@ -1,27 +1,16 @@
--- Words of a schedule, and the key expansion, which adds one word a turn. Assumes nothing.
-use mathlib.Core.Path.{_≡_, refl, sym, ap, ap₂, _∙_}
+-- A word written to a schedule, and the two loops of the key expansion, which write one a turn. Assumes nothing.
+use mathlib.Core.Path.{_≡_, refl, sym, ap, _∙_}
 use mathlib.Core.List.{List, [], _∷_, _++_, append-assoc}
 use Prim.Native.Nat.{ℕ, suc, _+_, _-_, _*_, _/_, _%_, _<_, _≤_}
+use native.Mathlib.Nat.{add-zero}
 use native.Mathlib.Omega.{arith}
 use borrow.Author.Tests.{eq-eqb, ne-eqb}
 use lib.ListN.{length, getD, take, drop, set, length-append}
-use lib.Seq.{getD-take, sets-eq, take-at, length-take-le, take-all, drop-drop}
+use lib.Seq.{sets-eq, take-at, take-all, take-take, length-take-le, drop-drop}
 use Rattle.model.specs.Bytes.{over, put}
-use Rattle.model.specs.Aes.{Block, word, xorWord, rotWord, subWord, rcon, temp, nextWord, expandBy, keyExpansion}
+use Rattle.model.specs.Aes.{Block, word, xorWord, rotWord, subWord, rcon, temp, nextWord, IsExpansion}
 use Rattle.model.proofs.Lists.{elements}
-
--- ---- word i, from word i - 4, o, and word i - 1, l
-
-module _ (w : List ℕ) (i : ℕ) {o l : List ℕ} (at-o : o ≡ word w (i - 4)) (at-l : l ≡ word w (i - 1)) where
-  -- the first of a round: l is rotated, which gives k, and substituted, s, and the round constant r is added, c
-  pub first-word : {r : ℕ} {k s c x : List ℕ} → i % 4 ≡ 0 → r ≡ rcon (i / 4) → k ≡ rotWord l → s ≡ subWord k →
-      c ≡ xorWord s (r ∷ 0 ∷ 0 ∷ 0 ∷ []) → x ≡ xorWord o c → x ≡ nextWord w i
-  unfolding nextWord temp
-  first-word h e f g p q = rw (eq-eqb (i % 4) 0 h) (cc)
-
-  pub other-word : {x : List ℕ} → (i % 4 ≡ 0 → ⊥) → x ≡ xorWord o l → x ≡ nextWord w i
-  unfolding nextWord temp
-  other-word h e = rw (ne-eqb (i % 4) 0 h) (cc)
+use Rattle.model.proofs.Expansion.{take-word, next-length, Expanded, expanded-key, expanded-more, expanded-all}
 
 -- ---- a word written
 
@@ -42,58 +31,78 @@ put-take w x i l h =
     rw (← append-assoc)
     (take-at (take (4 * i) w ++ x) _ (4 * (i + 1)) (omega (arith, l, length-append (take (4 * i) w) x, length-take-le (4 * i) w (omega arith))))
 
--- ---- the expansion
+-- ---- the first loop: before word i is written, w has the key's words up to it
 
--- a word that lies in the first n bytes
-word-take : (w : List ℕ) (n j : ℕ) → 4 * j + 3 < n → word (take n w) j ≡ word w j
-word-take w n j h =
-    cc (getD-take n w (4 * j + 0) 0 (omega arith), getD-take n w (4 * j + 1) 0 (omega arith), getD-take n w (4 * j + 2) 0 (omega arith), getD-take n w (4 * j + 3) 0 (omega arith))
+pub record KeyCopied (key : Block) (i : ℕ) (w : List ℕ) : Type 0 where
+  pub within : i ≤ 4
+  pub size : length w ≡ 176
+  pub so-far : take (4 * i) w ≡ take (4 * i) key
 
--- word i is made from the words before it
-next-take : (w : List ℕ) (i : ℕ) → 3 < i → nextWord (take (4 * i) w) i ≡ nextWord w i
-unfolding nextWord
-next-take w i h =
-    ap₂ (λ (x y : List ℕ). xorWord x (temp i y)) (word-take w (4 * i) (i - 4) (omega arith)) (word-take w (4 * i) (i - 1) (omega arith))
+pub key-start : {key : Block} {w : List ℕ} → length w ≡ 176 → KeyCopied key 0 w
+key-start l = record { within = omega arith; size = l; so-far = refl }
 
-next-length : (w : List ℕ) (i : ℕ) → length (nextWord w i) ≡ 4
-unfolding nextWord
-next-length w i = refl
+-- w′ is w with the key's four bytes from 4i on written there
+pub key-turn : {key : Block} {i : ℕ} {w w′ : List ℕ} → length key ≡ 16 → KeyCopied key i w →
+    w′ ≡ put w (4 * i) (getD key (4 * i) 0 ∷ getD key (4 * i + 1) 0 ∷ getD key (4 * i + 2) 0 ∷ getD key (4 * i + 3) 0 ∷ []) → length w′ ≡ 176 → i < 4 →
+    KeyCopied key (i + 1) w′
+key-turn {key} {i} {w} {w′} k inv f l h =
+    let x : List ℕ = word key i in
+    let e : w′ ≡ put w (4 * i) x = f ∙ rw add-zero in
+    record {
+      within = omega arith;
+      size = l;
+      so-far =
+          rw e
+          (put-take w x i refl (omega (arith, inv .size)) ∙ ap (λ (y : List ℕ). y ++ x) (inv .so-far) ∙ sym (take-word i key (omega arith)));
+    }
 
--- what holds of the schedule w before word i is made
-pub record Expanded (key : Block) (i : ℕ) (w : List ℕ) : Type 0 where
-  pub past : 3 < i
+-- ---- the second loop: before word i is written, w has the schedule's words up to it
+
+pub record Expanding (key : Block) (i : ℕ) (w : List ℕ) : Type 0 where
+  pub past : 4 ≤ i
   pub within : i ≤ 44
   pub size : length w ≡ 176
-  pub so-far : take (4 * i) w ≡ expandBy (i - 4) key
+  pub so-far : Expanded key i w
 
-pub expand-start : {w : List ℕ} → length w ≡ 176 → Expanded (take 16 w) 4 w
-unfolding expandBy
-expand-start l = record { past = omega arith; within = omega arith; size = l; so-far = refl }
+-- word i is made of temp and of word i - 4
+module _ (w : List ℕ) (i : ℕ) where
+  -- in the first word of a round temp is word i - 1, l, rotated, which gives k, and substituted, s, with the round constant r added
+  pub temp-first : {l k s r x : List ℕ} → l ≡ word w (i - 1) → i % 4 ≡ 0 → k ≡ rotWord l → s ≡ subWord k → r ≡ rcon (i / 4) → x ≡ xorWord s r →
+      x ≡ temp i (word w (i - 1))
+  unfolding temp
+  temp-first d h e f g p = rw (eq-eqb (i % 4) 0 h) (cc)
 
--- the key, written at the front
-pub key-first : (o : List ℕ) {w : List ℕ} {key : Block} → w ≡ put o 0 key → length key ≡ 16 → take 16 w ≡ key
-unfolding put over
-key-first o {w} {key} e l = rw e (take-at key _ 16 l)
+  -- else it is word i - 1
+  pub temp-other : {x : List ℕ} → x ≡ word w (i - 1) → (i % 4 ≡ 0 → ⊥) → x ≡ temp i (word w (i - 1))
+  unfolding temp
+  temp-other e h = rw (ne-eqb (i % 4) 0 h) e
 
-module _ {key : Block} where
-  -- word i is x, and w′ the schedule with it written
-  pub expand-turn : {i : ℕ} {w x w′ : List ℕ} → Expanded key i w → x ≡ nextWord w i → w′ ≡ put w (4 * i) x → length w′ ≡ 176 → i < 44 →
-      Expanded key (i + 1) w′
-  unfolding expandBy
-  expand-turn {i} {w} {x} {w′} inv e f l h =
-      let p : i ≡ 4 + (i - 4) = omega (arith, inv .past) in
-      let q : i + 1 - 4 ≡ suc (i - 4) = omega (arith, inv .past) in
-      let n : x ≡ nextWord (expandBy (i - 4) key) (4 + (i - 4)) = e ∙ sym (next-take w i (inv .past)) ∙ ap₂ nextWord (inv .so-far) p in
-      record {
-        past = omega (arith, inv .past);
-        within = omega arith;
-        size = l;
-        so-far =
-            rw (f, q) (put-take w x i (ap length e ∙ next-length w i) (omega (arith, inv .size)) ∙ ap₂ (λ (y z : List ℕ). y ++ z) (inv .so-far) n);
-      }
+  pub made : {t o x : List ℕ} → t ≡ temp i (word w (i - 1)) → o ≡ word w (i - 4) → x ≡ xorWord o t → x ≡ nextWord w i
+  unfolding nextWord
+  made e f g = cc
 
-  pub expand-end : {i : ℕ} {w : List ℕ} → Expanded key i w → 44 ≤ i → w ≡ keyExpansion key
-  unfolding keyExpansion
-  expand-end {i} {w} inv h =
-      let p : i - 4 ≡ 40 = omega (arith, inv .within) in
-      sym (take-all (4 * i) w (omega (arith, inv .size))) ∙ inv .so-far ∙ ap (λ (k : ℕ). expandBy k key) p
+-- the first loop left the key in the first 16 bytes
+pub expand-start : {key : Block} {i : ℕ} {w : List ℕ} → KeyCopied key i w → 3 < i → Expanding (take 16 w) i w
+expand-start {i = i} {w} inv h =
+    let e : i ≡ 4 = omega (arith, inv .within) in
+    record { past = h; within = omega arith; size = inv .size; so-far = rw e (expanded-key (sym (take-take 16 16 w (omega arith)))) }
+
+pub expand-turn : {key : Block} {i : ℕ} {w x w′ : List ℕ} → Expanding key i w → x ≡ nextWord w i → w′ ≡ put w (4 * i) x → length w′ ≡ 176 → i < 44 →
+    Expanding key (i + 1) w′
+expand-turn {i = i} {w} {x} inv e f l h =
+    let m : length x ≡ 4 = ap length e ∙ next-length w i in
+    record {
+      past = omega (arith, inv .past);
+      within = omega arith;
+      size = l;
+      so-far =
+          expanded-more (inv .past) (omega (arith, inv .size)) (inv .so-far)
+          (rw f (put-take w x i m (omega (arith, inv .size)) ∙ ap (λ (y : List ℕ). take (4 * i) w ++ y) e));
+    }
+
+pub expand-end : {key : Block} {j i : ℕ} {w₀ w : List ℕ} → length key ≡ 16 → KeyCopied key j w₀ → 3 < j → Expanding (take 16 w₀) i w → 43 < i → IsExpansion key w
+expand-end {key} {j} {i} {w₀} {w} l first g inv h =
+    let p : 4 * j ≡ 16 = omega (arith, first .within) in
+    let k : take 16 w₀ ≡ key = (rw p at (first .so-far)) ∙ take-all 16 key (omega arith) in
+    let e : i ≡ 44 = omega (arith, inv .within) in
+    expanded-all (inv .size) (rw (e, k) at (inv .so-far))

@@ -4,28 +4,23 @@ use block::Block;
 ghost use mathlib.Core.Path.{_≡_};
 ghost use Prim.Native.Nat.{_*_, _<_};
 ghost use Rattle.model.specs.Bytes.{put};
-ghost use Rattle.model.specs.Aes.{IsSBox, word, xorWord, rotWord, subWord, rcon, nextWord, keyExpansion};
+ghost use Rattle.model.specs.Aes.{IsSBox, word, xorWord, rotWord, subWord, rcon, IsExpansion};
 
-// The first byte of Rcon[r], at r from 1; entry 0 is not used.
-const RCON: [u8; 11] = [
-    0x00,
-    0x01,
-    0x02,
-    0x04,
-    0x08,
-    0x10,
-    0x20,
-    0x40,
-    0x80,
-    0x1b,
-    0x36,
-];
+// AES-128 (§5): the words of a key, Nk, and the rounds, Nr.
+const NK: usize = 4;
 
-fn round_constant(r: usize) -> u8
-    requires { ⌜ r < 11 ⌝ }
-    ensures { λ q. ⌜ q ≡ rcon r ⌝ }
+const NR: usize = 10;
+
+// {02}^k in GF(2^8), for k from 0 to 9.
+const POWERS_OF_X: [u8; 10] = [0x01, 0x02, 0x04, 0x08, 0x10, 0x20, 0x40, 0x80, 0x1b, 0x36];
+
+// Rcon[j]: {02}^(j - 1), and three bytes 0.
+fn round_constant(j: usize) -> [u8; 4]
+    requires { ⌜ 0 < j ⌝ }
+    requires { ⌜ j < 11 ⌝ }
+    ensures { λ r. ⌜ r ≡ rcon j ⌝ }
 {
-    RCON[r]
+    [POWERS_OF_X[j - 1], 0, 0, 0]
 }
 
 fn xor_word(a: [u8; 4], b: [u8; 4]) -> [u8; 4]
@@ -69,33 +64,26 @@ fn put_word(w: [u8; 176], i: usize, x: [u8; 4]) -> [u8; 176]
     v
 }
 
-// Word i, from word i - 4 and word i - 1.
-fn next_word(t: &[u8; 256], w: &[u8; 176], i: usize) -> [u8; 4]
-    requires { ⌜ IsSBox (now t) ⌝ }
-    requires { ⌜ 3 < i ⌝ }
-    requires { ⌜ i < 44 ⌝ }
-    ensures { λ r. ⌜ r ≡ nextWord (now (w .entry)) i ⌝ }
-{
-    let old = word(w, i - 4);
-    let last = word(w, i - 1);
-    if i % 4 == 0 {
-        let c = [round_constant(i / 4), 0, 0, 0];
-        xor_word(old, xor_word(sub_word(t, rot_word(last)), c))
-    } else {
-        xor_word(old, last)
-    }
-}
-
-// The schedule of a key: it is made once, and lent to each encryption under that key.
+// KeyExpansion: the schedule of a key, which is made once and lent to each encryption under it. The lines of §5.2's Algorithm 2 stand
+// beside those that do what they say.
 pub fn expand_key(t: &[u8; 256], key: Block) -> [u8; 176]
     requires { ⌜ IsSBox (now t) ⌝ }
-    ensures { λ r. ⌜ r ≡ keyExpansion (key .bytes) ⌝ }
+    ensures { λ r. ⌜ IsExpansion (key .bytes) r ⌝ }
 {
+    let k = key.bytes;
     let mut w = [0u8; 176];
-    block::store(&mut w, 0, key);
-    for i in 4..44 {
-        let x = next_word(t, &w, i);
-        w = put_word(w, i, x);
-    }
-    w
+    let mut i: usize = 0; // i ← 0
+    while i <= NK - 1 { // while i ≤ Nk - 1 do
+        w = put_word(w, i, [k[4 * i], k[4 * i + 1], k[4 * i + 2], k[4 * i + 3]]); // w[i] ← key[4*i..4*i+3]
+        i += 1; // i ← i + 1
+    } // end while
+    while i <= 4 * NR + 3 { // while i ≤ 4 * Nr + 3 do
+        let mut temp = word(&w, i - 1); // temp ← w[i-1]
+        if i % NK == 0 { // if i mod Nk = 0 then
+            temp = xor_word(sub_word(t, rot_word(temp)), round_constant(i / NK)); // temp ← SubWord(RotWord(temp)) ⊕ Rcon[i/Nk]
+        } // else if Nk > 6 ..: AES-128 has Nk = 4; end if
+        w = put_word(w, i, xor_word(word(&w, i - NK), temp)); // w[i] ← w[i-Nk] ⊕ temp
+        i += 1; // i ← i + 1
+    } // end while
+    w // return w
 }

@@ -9,11 +9,12 @@ use Rattle.model.specs.declared.Sizes.{Sizes}
 use Rattle.model.specs.declared.Wanted.{Wanted}
 use Rattle.model.specs.Bytes.{over}
 use Rattle.model.specs.Circuit.{charges, circuitOf, inputs, outputs, gates}
-use Rattle.model.specs.Aes.{Block, keyExpansion, aes}
+use Rattle.model.specs.Aes.{Block, IsExpansion, keyExpansion, aes}
 use Rattle.model.specs.Tokens.{garblingOf, seedBlock, offset, inputZeros, oneToken}
 use Rattle.model.specs.Garbling.{zeroTokens, inputOnes}
 use Rattle.model.specs.Material.{joinBlocks, materialLength, header, material}
 use Rattle.model.proofs.Lists.{tabulate-length, tabulate-map}
+use Rattle.model.proofs.Expansion.{expansion-only}
 use Rattle.model.proofs.Buffers.{over-length, over-over}
 use Rattle.model.proofs.Outputs.{outputs-many}
 use Rattle.model.proofs.Blocks.{join-length}
@@ -43,7 +44,7 @@ module _ (c seed : List ℕ) (want : Wanted) (s : Sizes) (m z o : List ℕ) (sta
   }
 
   -- the seed as a block, its schedule, and the plan, as they were made
-  module _ (k w : List ℕ) (plan : Plan) (is-k : k ≡ take 16 (drop 0 seed)) (is-w : w ≡ keyExpansion k) (is-plan : PlanIs k want (s .n) plan) where
+  module _ (k w : List ℕ) (plan : Plan) (is-k : k ≡ take 16 (drop 0 seed)) (expanded : IsExpansion k w) (is-plan : PlanIs k want (s .n) plan) where
     -- a seed is its own front
     is-seed : k ≡ seed
     is-seed = is-k ∙ take-all 16 seed (omega (arith, start .seed-length))
@@ -51,6 +52,9 @@ module _ (c seed : List ℕ) (want : Wanted) (s : Sizes) (m z o : List ℕ) (sta
     offset-is : plan .r .bytes ≡ offset (garblingOf c seed want)
     unfolding offset seedBlock
     offset-is = is-plan .is-offset ∙ rw is-seed
+
+    is-w : w ≡ keyExpansion k
+    is-w = expansion-only (ap length is-seed ∙ start .seed-length) expanded
 
     schedule : w ≡ keyExpansion seed
     schedule = is-w ∙ ap keyExpansion is-seed

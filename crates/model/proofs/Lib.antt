@@ -5,6 +5,7 @@ pub mod Buffers
 pub mod Decimal
 pub mod Xor
 pub mod Field
+pub mod Expansion
 pub mod Circuits
 pub mod Verdicts
 pub mod Conditions

@@ -1,11 +1,11 @@
 -- Document 01, "AES and doubling". AES-128 is that of FIPS 197, whose sections (§) are named.
-use Prim.Native.Nat.{ℕ, zero, suc, _+_, _-_, _*_, _/_, _%_, _^_, _<_}
+use Prim.Native.Nat.{ℕ, zero, suc, _+_, _-_, _*_, _/_, _%_, _^_, _<_, _≤_}
 use mathlib.Core.Path.{_≡_}
 use mathlib.Core.Bool.{cond}
 use mathlib.Core.List.{List, [], _∷_, _++_}
 use lib.Bits.{bitXor}
 use lib.Dec.{eqb}
-use lib.ListN.{getD}
+use lib.ListN.{length, getD}
 use Rattle.model.specs.Bytes.{tabulate, number, bytesOf}
 
 -- ---- blocks
@@ -102,7 +102,8 @@ roundKey w r = tabulate 16 (λ i. getD w (16 * r + i) 0)
 unfoldable pub addRoundKey : List ℕ → ℕ → Block → Block
 addRoundKey w r s = s ⊕ roundKey w r
 
--- ---- key expansion, §5.2. A schedule is 44 words, one after the other: word i is at byte 4i.
+-- ---- key expansion, §5.2, Algorithm 2 (Figure 11 in the edition of 2001), whose lines are named. AES-128 has a key of Nk = 4 words and
+-- Nr = 10 rounds: its schedule is 4(Nr + 1) = 44 words, one after the other, word i at byte 4i.
 
 abbrev pub word : List ℕ → ℕ → List ℕ
 word w i = tabulate 4 (λ j. getD w (4 * i + j) 0)
@@ -116,24 +117,37 @@ rotWord a = tabulate 4 (λ j. getD a ((j + 1) % 4) 0)
 unfoldable pub subWord : List ℕ → List ℕ
 subWord w = tabulate 4 (λ j. sBox (getD w j 0))
 
--- the first byte of Rcon[r], r from 1: x^(r - 1); the other three are 0
-unfoldable pub rcon : ℕ → ℕ
-rcon zero = 0
-rcon (suc zero) = 1
-rcon (suc (suc r)) = xtime (rcon (suc r))
+-- {02}^k, which is x^k (§4.2)
+unfoldable pub powerOfX : ℕ → ℕ
+powerOfX zero = 1
+powerOfX (suc k) = xtime (powerOfX k)
 
--- what word i adds to word i - 4: word i - 1, which every fourth time is rotated, substituted and given a round constant
+-- Rcon[j], j from 1: its first byte is {02}^(j - 1), the others are 0
+abbrev pub rcon : ℕ → List ℕ
+rcon j = powerOfX (j - 1) ∷ 0 ∷ 0 ∷ 0 ∷ []
+
+-- "temp ← w[i-1]", here a; "if i mod Nk = 0 then temp ← SubWord(RotWord(temp)) ⊕ Rcon[i/Nk]". What else is done for Nk > 6 does not arise.
 unfoldable pub temp : ℕ → List ℕ → List ℕ
-temp i a = cond (eqb (i % 4) 0) (xorWord (subWord (rotWord a)) (rcon (i / 4) ∷ 0 ∷ 0 ∷ 0 ∷ [])) a
+temp i a = cond (eqb (i % 4) 0) (xorWord (subWord (rotWord a)) (rcon (i / 4))) a
 
+-- "w[i-Nk] ⊕ temp"
 unfoldable pub nextWord : List ℕ → ℕ → List ℕ
 nextWord w i = xorWord (word w (i - 4)) (temp i (word w (i - 1)))
+
+-- w is the schedule of a key: what the algorithm says of each of its words
+pub record IsExpansion (key : Block) (w : List ℕ) : Type 0 where
+  pub words : length w ≡ 4 * 44
+  -- "w[i] ← key[4*i..4*i+3]", for i up to Nk - 1
+  pub from-key : (i : ℕ) → i < 4 → word w i ≡ word key i
+  -- "w[i] ← w[i-Nk] ⊕ temp", for i from Nk up to 4 * Nr + 3
+  pub from-words : (i : ℕ) → 4 ≤ i → i < 44 → word w i ≡ nextWord w i
 
 -- the key, and the k words after it
 unfoldable pub expandBy : ℕ → Block → List ℕ
 expandBy zero key = key
 expandBy (suc k) key = let w = expandBy k key in w ++ nextWord w (4 + k)
 
+-- the schedule of a key, computed: that it is the one list of which IsExpansion holds is the law `expansion-exactly` of proofs/Expansion.antt
 unfoldable pub keyExpansion : Block → List ℕ
 keyExpansion key = expandBy 40 key
 

@@ -1,34 +1,56 @@
-use mathlib.Core.Path.{ap, _∙_}
+use mathlib.Core.Path.{_∙_}
 use Prim.Native.Nat.{_-_}
-use native.Mathlib.Omega.{arith}
+use mathlib.Core.Logic.{⊎-elim}
 use borrow.Author.Needs.{needs}
 use lib.ListN.{take}
-use Rattle.model.specs.Aes.{keyExpansion}
-use Rattle.aes.proofs.Words.{Expanded, expand-start, key-first, expand-turn, expand-end}
+use Rattle.aes.proofs.Words.{KeyCopied, key-start, key-turn, Expanding, temp-first, temp-other, made, expand-start, expand-turn, expand-end}
 use Rattle.aes.proofs.schedule.expand_key.Statement.{statement}
 use Rattle.aes.proofs.schedule.expand_key.Tie as tie
 
--- the key stands in the first 16 bytes
 abbrev Inv-loop : tie.InvT-loop
-Inv-loop t w₀ i₀ w i = Expanded (take 16 w₀) i w
+Inv-loop t k w₀ i₀ w i = KeyCopied k i w
 
 abbrev μ-loop : tie.MeasureT-loop
-μ-loop t w₀ i₀ w i = 44 - i
+μ-loop t k w₀ i₀ w i = 4 - i
 
-loop-holds : tie.Need-loop-holds Inv-loop μ-loop
-loop-holds c = expand-start (search needs)
+-- the key stands in the first 16 bytes
+abbrev Inv-loop2 : tie.InvT-loop2
+Inv-loop2 t w₀ i₀ w i = Expanding (take 16 w₀) i w
 
-loop-again : tie.Need-loop-again Inv-loop μ-loop
-loop-again c =
-    expand-turn (c .before .before .before .before .loop .inv) (c .before .next-word .ensures) (c .put-word .ensures) (search needs) (omega arith)
+abbrev μ-loop2 : tie.MeasureT-loop2
+μ-loop2 t w₀ i₀ w i = 44 - i
 
-returns : tie.Need-returns Inv-loop μ-loop
+loop-holds : tie.Need-loop-holds Inv-loop μ-loop Inv-loop2 μ-loop2
+loop-holds c = key-start (search needs)
+
+loop-again : tie.Need-loop-again Inv-loop μ-loop Inv-loop2 μ-loop2
+loop-again c = key-turn (search needs) (c .before .before .loop .inv) (c .put-word .ensures) (search needs) (search needs)
+
+loop2-holds : tie.Need-loop2-holds Inv-loop μ-loop Inv-loop2 μ-loop2
+loop2-holds c = expand-start (c .before .loop .inv) (search needs)
+
+loop2-again : tie.Need-loop2-again Inv-loop μ-loop Inv-loop2 μ-loop2
+loop2-again c =
+    let joined = c .before .before .before .before in
+    let read = joined .before in
+    let l = read .before .before .before in
+    let w = l .loop2 .w in
+    let i = l .loop2 .i in
+    expand-turn (l .loop2 .inv)
+    (made w i
+    (⊎-elim (λ a. temp-first w i (read .word .ensures) (a .0 .taken) (a .1 .ensures) (a .2 .ensures) (a .3 .ensures) (a .5 ∙ a .4 .ensures))
+    (λ a. temp-other w i (a .1 ∙ read .word .ensures) (a .0 .left)) (joined .if1 .came))
+    (c .before .before .word2 .ensures) (c .before .xor-word2 .ensures))
+    (c .put-word2 .ensures) (search needs) (search needs)
+
+returns : tie.Need-returns Inv-loop μ-loop Inv-loop2 μ-loop2
 returns c =
-    let stored = c .before .before .before in
-    expand-end (c .before .loop .inv) (omega arith) ∙ ap keyExpansion (key-first _ (stored .store .ensures) (search needs))
+    expand-end (search needs) (c .before .before .before .loop .inv) (search needs) (c .before .loop2 .inv) (search needs)
 
 pub expand-key-spec : {M : Type 1} → statement M
 expand-key-spec =
     tie.close
-    (tie.spec Inv-loop μ-loop (λ c. search needs) (λ c κs. search needs) loop-holds (λ c κs. search needs) (λ c κs. search needs) (λ c. search needs) (λ c. search needs)
-    loop-again returns)
+    (tie.spec Inv-loop μ-loop Inv-loop2 μ-loop2 loop-holds (λ c. search needs) (λ c. search needs) (λ c. search needs) (λ c. search needs) (λ c. search needs) (λ c. search needs)
+    (λ c. search needs) (λ c. search needs) (λ c. search needs) (λ c. search needs) (λ c. search needs) (λ c. search needs) (λ c κs. search needs) (λ c. search needs) (λ c. search needs)
+    loop-again loop2-holds (λ c. search needs) (λ c. search needs) (λ c. search needs) (λ c κs. search needs) (λ c κs. search needs) (λ c κs. search needs) (λ c κs. search needs)
+    (λ c κs. search needs) (λ c. search needs) (λ c κs. search needs) (λ c κs. search needs) (λ c κs. search needs) (λ c. search needs) (λ c. search needs) loop2-again returns)

@@ -1,7 +1,13 @@
 use borrow.Author.Needs.{needs}
+use Rattle.model.proofs.Expansion.{expansion-only}
 use Rattle.garble.proofs.WholeLaws.{whole-front, whole-walk, whole-body, whole-done}
 use Rattle.garble.proofs.whole.garble_whole.Statement.{statement}
 use Rattle.garble.proofs.whole.garble_whole.Tie as tie
+
+plan-of-requires : tie.Need-plan-of-requires
+plan-of-requires c κs =
+    let boxed = c .before .before .before .before .before .before .before in
+    (boxed .s-box .ensures, expansion-only (search needs) (c .before .before .expand-key .ensures))
 
 garble-front-requires : tie.Need-garble-front-requires
 garble-front-requires c κs =
@@ -38,5 +44,5 @@ pub garble-whole-spec : {M : Type 1} → statement M
 garble-whole-spec =
     tie.close
     (tie.spec (λ c κs. search needs) (λ c κs. search needs) (λ c κs. search needs) (λ c κs. search needs) (λ c κs. search needs)
-    (λ c κs. search needs) garble-front-requires garble-body-requires (λ c. search needs) (λ c. search needs)
+    plan-of-requires garble-front-requires garble-body-requires (λ c. search needs) (λ c. search needs)
     (λ c. search needs) returns)
