@@ -4,13 +4,12 @@ use mathlib.Core.List.{List, [], _∷_, _++_, append-assoc}
 use Prim.Native.Nat.{ℕ, suc, _+_, _-_, _*_, _/_, _%_, _<_, _≤_}
 use native.Mathlib.Nat.{add-zero}
 use native.Mathlib.Omega.{arith}
-use borrow.Author.Tests.{eq-eqb, ne-eqb}
 use lib.ListN.{length, getD, take, drop, set, length-append}
 use lib.Seq.{sets-eq, take-at, take-all, take-take, length-take-le, drop-drop}
 use Rattle.model.specs.Bytes.{over, put}
 use Rattle.model.specs.Aes.{Block, word, xorWord, rotWord, subWord, rcon, temp, nextWord, IsExpansion}
 use Rattle.model.proofs.Lists.{elements}
-use Rattle.model.proofs.Expansion.{take-word, next-length, Expanded, expanded-key, expanded-more, expanded-all}
+use Rattle.model.proofs.Expansion.{take-word, next-length, temp-first, temp-other, Expanded, expanded-key, expanded-more, expanded-all}
 
 -- ---- a word written
 
@@ -66,16 +65,14 @@ pub record Expanding (key : Block) (i : ℕ) (w : List ℕ) : Type 0 where
 
 -- word i is made of temp and of word i - 4
 module _ (w : List ℕ) (i : ℕ) where
-  -- in the first word of a round temp is word i - 1, l, rotated, which gives k, and substituted, s, with the round constant r added
-  pub temp-first : {l k s r x : List ℕ} → l ≡ word w (i - 1) → i % 4 ≡ 0 → k ≡ rotWord l → s ≡ subWord k → r ≡ rcon (i / 4) → x ≡ xorWord s r →
+  -- word i - 1, l, is rotated, which gives k, and substituted, s, and the round constant r is added
+  pub temp-made : {l k s r x : List ℕ} → l ≡ word w (i - 1) → i % 4 ≡ 0 → k ≡ rotWord l → s ≡ subWord k → r ≡ rcon (i / 4) → x ≡ xorWord s r →
       x ≡ temp i (word w (i - 1))
-  unfolding temp
-  temp-first d h e f g p = rw (eq-eqb (i % 4) 0 h) (cc)
+  temp-made d h e f g p = cc (temp-first i (word w (i - 1)) h)
 
-  -- else it is word i - 1
-  pub temp-other : {x : List ℕ} → x ≡ word w (i - 1) → (i % 4 ≡ 0 → ⊥) → x ≡ temp i (word w (i - 1))
-  unfolding temp
-  temp-other e h = rw (ne-eqb (i % 4) 0 h) e
+  -- or kept
+  pub temp-kept : {x : List ℕ} → x ≡ word w (i - 1) → (i % 4 ≡ 0 → ⊥) → x ≡ temp i (word w (i - 1))
+  temp-kept e h = e ∙ sym (temp-other i (word w (i - 1)) h)
 
   pub made : {t o x : List ℕ} → t ≡ temp i (word w (i - 1)) → o ≡ word w (i - 4) → x ≡ xorWord o t → x ≡ nextWord w i
   unfolding nextWord

@@ -2,12 +2,13 @@
 use mathlib.Core.Path.{_≡_, refl, sym, ap, ap₂, _∙_}
 use mathlib.Core.Logic.{_↔_, _⊎_, inl, inr}
 use mathlib.Core.List.{List, _++_}
-use Prim.Native.Nat.{ℕ, zero, suc, _+_, _-_, _*_, _<_, _≤_}
+use Prim.Native.Nat.{ℕ, zero, suc, _+_, _-_, _*_, _/_, _%_, _<_, _≤_}
 use native.Mathlib.Nat.{eq-or-lt-of-le}
 use native.Mathlib.Omega.{arith}
+use borrow.Author.Tests.{eq-eqb, ne-eqb}
 use lib.ListN.{length, getD, take, drop, length-append}
 use lib.Seq.{getD-take, length-take-le, take-all, take-add, take-at, take-take, drop-at}
-use Rattle.model.specs.Aes.{Block, word, xorWord, temp, nextWord, IsExpansion, expandBy, keyExpansion}
+use Rattle.model.specs.Aes.{Block, word, xorWord, rotWord, subWord, rcon, temp, nextWord, IsExpansion, expandBy, keyExpansion}
 use Rattle.model.proofs.Lists.{part}
 
 -- ---- words of a schedule
@@ -26,6 +27,16 @@ last-word n p x l m =
 pub next-length : (w : List ℕ) (i : ℕ) → length (nextWord w i) ≡ 4
 unfolding nextWord
 next-length w i = refl
+
+-- temp in its two cases: for the first word of a round, and for the others
+module _ (i : ℕ) (a : List ℕ) where
+  pub temp-first : i % 4 ≡ 0 → temp i a ≡ xorWord (subWord (rotWord a)) (rcon (i / 4))
+  unfolding temp
+  temp-first h = rw (eq-eqb (i % 4) 0 h)
+
+  pub temp-other : (i % 4 ≡ 0 → ⊥) → temp i a ≡ a
+  unfolding temp
+  temp-other h = rw (ne-eqb (i % 4) 0 h)
 
 -- a word that lies in the first n bytes
 word-take : (w : List ℕ) (n i : ℕ) → 4 * i + 3 < n → word (take n w) i ≡ word w i

@@ -3,7 +3,7 @@ use Prim.Native.Nat.{_-_}
 use mathlib.Core.Logic.{⊎-elim}
 use borrow.Author.Needs.{needs}
 use lib.ListN.{take}
-use Rattle.aes.proofs.Words.{KeyCopied, key-start, key-turn, Expanding, temp-first, temp-other, made, expand-start, expand-turn, expand-end}
+use Rattle.aes.proofs.Words.{KeyCopied, key-start, key-turn, Expanding, temp-made, temp-kept, made, expand-start, expand-turn, expand-end}
 use Rattle.aes.proofs.schedule.expand_key.Statement.{statement}
 use Rattle.aes.proofs.schedule.expand_key.Tie as tie
 
@@ -38,8 +38,8 @@ loop2-again c =
     let i = l .loop2 .i in
     expand-turn (l .loop2 .inv)
     (made w i
-    (⊎-elim (λ a. temp-first w i (read .word .ensures) (a .0 .taken) (a .1 .ensures) (a .2 .ensures) (a .3 .ensures) (a .5 ∙ a .4 .ensures))
-    (λ a. temp-other w i (a .1 ∙ read .word .ensures) (a .0 .left)) (joined .if1 .came))
+    (⊎-elim (λ a. temp-made w i (read .word .ensures) (a .0 .taken) (a .1 .ensures) (a .2 .ensures) (a .3 .ensures) (a .5 ∙ a .4 .ensures))
+    (λ a. temp-kept w i (a .1 ∙ read .word .ensures) (a .0 .left)) (joined .if1 .came))
     (c .before .before .word2 .ensures) (c .before .xor-word2 .ensures))
     (c .put-word2 .ensures) (search needs) (search needs)
 
