@@ -102,7 +102,7 @@ roundKey w r = tabulate 16 (λ i. getD w (16 * r + i) 0)
 unfoldable pub addRoundKey : List ℕ → ℕ → Block → Block
 addRoundKey w r s = s ⊕ roundKey w r
 
--- ---- key expansion, §5.2, Algorithm 2 (Figure 11 in the edition of 2001), whose lines are named. AES-128 has a key of Nk = 4 words and
+-- ---- key expansion, §5.2, Algorithm 2 (Figure 11 in the edition of 2001), whose lines are quoted. AES-128 has a key of Nk = 4 words and
 -- Nr = 10 rounds: its schedule is 4(Nr + 1) = 44 words, one after the other, word i at byte 4i.
 
 abbrev pub word : List ℕ → ℕ → List ℕ
@@ -147,7 +147,8 @@ unfoldable pub expandBy : ℕ → Block → List ℕ
 expandBy zero key = key
 expandBy (suc k) key = let w = expandBy k key in w ++ nextWord w (4 + k)
 
--- the schedule of a key, computed: that it is the one list of which IsExpansion holds is the law `expansion-exactly` of proofs/Expansion.antt
+-- the schedule of a key, computed. Of a key of 16 bytes IsExpansion holds for this list and for no other: the law `expansion-exactly` of
+-- proofs/Expansion.antt.
 unfoldable pub keyExpansion : Block → List ℕ
 keyExpansion key = expandBy 40 key
 
