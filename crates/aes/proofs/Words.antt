@@ -1,4 +1,4 @@
--- A word written to a schedule, and the two loops of the key expansion, which write one a turn. Assumes nothing.
+-- A word read from a key or a schedule, a word written to one, and the two loops of the key expansion, which write one a turn. Assumes nothing.
 use mathlib.Core.Path.{_≡_, refl, sym, ap, _∙_}
 use mathlib.Core.List.{List, [], _∷_, _++_, append-assoc}
 use Prim.Native.Nat.{ℕ, suc, _+_, _-_, _*_, _/_, _%_, _<_, _≤_}
@@ -11,7 +11,10 @@ use Rattle.model.specs.Aes.{Block, word, xorWord, rotWord, subWord, rcon, temp,
 use Rattle.model.proofs.Lists.{elements}
 use Rattle.model.proofs.Expansion.{take-word, next-length, temp-first, temp-other, Expanded, expanded-key, expanded-more, expanded-all}
 
--- ---- a word written
+-- ---- a word read, and a word written
+
+pub word-read : (w : List ℕ) (i : ℕ) → getD w (4 * i) 0 ∷ getD w (4 * i + 1) 0 ∷ getD w (4 * i + 2) 0 ∷ getD w (4 * i + 3) 0 ∷ [] ≡ word w i
+word-read w i = rw add-zero
 
 pub stores : (w x : List ℕ) (at : ℕ) → length x ≡ 4 → at + 4 ≤ length w →
     set (set (set (set w at (getD x 0 0)) (at + 1) (getD x 1 0)) (at + 2) (getD x 2 0)) (at + 3) (getD x 3 0) ≡ put w at x
@@ -40,19 +43,17 @@ pub record KeyCopied (key : Block) (i : ℕ) (w : List ℕ) : Type 0 where
 pub key-start : {key : Block} {w : List ℕ} → length w ≡ 176 → KeyCopied key 0 w
 key-start l = record { within = omega arith; size = l; so-far = refl }
 
--- w′ is w with the key's four bytes from 4i on written there
-pub key-turn : {key : Block} {i : ℕ} {w w′ : List ℕ} → length key ≡ 16 → KeyCopied key i w →
-    w′ ≡ put w (4 * i) (getD key (4 * i) 0 ∷ getD key (4 * i + 1) 0 ∷ getD key (4 * i + 2) 0 ∷ getD key (4 * i + 3) 0 ∷ []) → length w′ ≡ 176 → i < 4 →
+-- word i is x, and w′ the schedule with it written
+pub key-turn : {key : Block} {i : ℕ} {w x w′ : List ℕ} → length key ≡ 16 → KeyCopied key i w → w′ ≡ put w (4 * i) x → x ≡ word key i → length w′ ≡ 176 → i < 4 →
     KeyCopied key (i + 1) w′
-key-turn {key} {i} {w} {w′} k inv f l h =
-    let x : List ℕ = word key i in
-    let e : w′ ≡ put w (4 * i) x = f ∙ rw add-zero in
+key-turn {key} {i} {w} {x} k inv f e l h =
+    let y : List ℕ = word key i in
     record {
       within = omega arith;
       size = l;
       so-far =
-          rw e
-          (put-take w x i refl (omega (arith, inv .size)) ∙ ap (λ (y : List ℕ). y ++ x) (inv .so-far) ∙ sym (take-word i key (omega arith)));
+          rw (f, e)
+          (put-take w y i refl (omega (arith, inv .size)) ∙ ap (λ (v : List ℕ). v ++ y) (inv .so-far) ∙ sym (take-word i key (omega arith)));
     }
 
 -- ---- the second loop: before word i is written, w has the schedule's words up to it
@@ -84,9 +85,9 @@ expand-start {i = i} {w} inv h =
     let e : i ≡ 4 = omega (arith, inv .within) in
     record { past = h; within = omega arith; size = inv .size; so-far = rw e (expanded-key (sym (take-take 16 16 w (omega arith)))) }
 
-pub expand-turn : {key : Block} {i : ℕ} {w x w′ : List ℕ} → Expanding key i w → x ≡ nextWord w i → w′ ≡ put w (4 * i) x → length w′ ≡ 176 → i < 44 →
+pub expand-turn : {key : Block} {i : ℕ} {w x w′ : List ℕ} → Expanding key i w → w′ ≡ put w (4 * i) x → x ≡ nextWord w i → length w′ ≡ 176 → i < 44 →
     Expanding key (i + 1) w′
-expand-turn {i = i} {w} {x} inv e f l h =
+expand-turn {i = i} {w} {x} inv f e l h =
     let m : length x ≡ 4 = ap length e ∙ next-length w i in
     record {
       past = omega (arith, inv .past);

@@ -3,7 +3,7 @@ use Prim.Native.Nat.{_-_}
 use mathlib.Core.Logic.{⊎-elim}
 use borrow.Author.Needs.{needs}
 use lib.ListN.{take}
-use Rattle.aes.proofs.Words.{KeyCopied, key-start, key-turn, Expanding, temp-made, temp-kept, made, expand-start, expand-turn, expand-end}
+use Rattle.aes.proofs.Words.{word-read, KeyCopied, key-start, key-turn, Expanding, temp-made, temp-kept, made, expand-start, expand-turn, expand-end}
 use Rattle.aes.proofs.schedule.expand_key.Statement.{statement}
 use Rattle.aes.proofs.schedule.expand_key.Tie as tie
 
@@ -24,7 +24,9 @@ loop-holds : tie.Need-loop-holds Inv-loop μ-loop Inv-loop2 μ-loop2
 loop-holds c = key-start (search needs)
 
 loop-again : tie.Need-loop-again Inv-loop μ-loop Inv-loop2 μ-loop2
-loop-again c = key-turn (search needs) (c .before .before .loop .inv) (c .put-word .ensures) (search needs) (search needs)
+loop-again c =
+    let l = c .before .before in
+    key-turn (search needs) (l .loop .inv) (c .put-word .ensures) (word-read (l .before .before .args .key .bytes) (l .loop .i)) (search needs) (search needs)
 
 loop2-holds : tie.Need-loop2-holds Inv-loop μ-loop Inv-loop2 μ-loop2
 loop2-holds c = expand-start (c .before .loop .inv) (search needs)
@@ -36,12 +38,12 @@ loop2-again c =
     let l = read .before .before .before in
     let w = l .loop2 .w in
     let i = l .loop2 .i in
-    expand-turn (l .loop2 .inv)
+    expand-turn (l .loop2 .inv) (c .put-word2 .ensures)
     (made w i
     (⊎-elim (λ a. temp-made w i (read .word .ensures) (a .0 .taken) (a .1 .ensures) (a .2 .ensures) (a .3 .ensures) (a .5 ∙ a .4 .ensures))
     (λ a. temp-kept w i (a .1 ∙ read .word .ensures) (a .0 .left)) (joined .if1 .came))
     (c .before .before .word2 .ensures) (c .before .xor-word2 .ensures))
-    (c .put-word2 .ensures) (search needs) (search needs)
+    (search needs) (search needs)
 
 returns : tie.Need-returns Inv-loop μ-loop Inv-loop2 μ-loop2
 returns c =

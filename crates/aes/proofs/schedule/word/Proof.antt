@@ -1,5 +1,5 @@
-use native.Mathlib.Nat.{add-zero}
 use borrow.Author.Needs.{needs}
+use Rattle.aes.proofs.Words.{word-read}
 use Rattle.aes.proofs.schedule.word.Statement.{statement}
 use Rattle.aes.proofs.schedule.word.Tie as tie
 
@@ -7,4 +7,4 @@ pub word-spec : {M : Type 1} → statement M
 word-spec =
     tie.close
     (tie.spec (λ c. search needs) (λ c. search needs) (λ c. search needs) (λ c. search needs) (λ c. search needs) (λ c. search needs) (λ c. search needs) (λ c. search needs)
-    (λ c. rw add-zero))
+    (λ c. let a = c .before .before .before .before .args in word-read (a .w .now) (a .i)))
