@@ -1,71 +1,51 @@
--- The codes that no arm of `matched_kind` names are refused; and the number that `all_threes` makes of the match has at a code's places what
+-- The codes that no arm of `matched_kind` names are refused; and the number that `all_bits` makes of the match has at a code's places what
 -- its kind has. Both are computed over the sixteen codes. Assumes nothing.
-use Prim.Native.Nat.{ℕ, zero, suc, _+_, _*_, _-_, _/_, _%_, _^_, _<_, _≤_}
+use Prim.Native.Nat.{ℕ, zero, suc, _+_, _*_, _/_, _%_, _^_, _<_, _≤_}
 use native.Mathlib.Decide.{decLt}
+use native.Mathlib.Nat.{mul-le-mul}
 use native.Mathlib.Omega.{arith}
 use mathlib.Core.Path.{_≡_, refl, sym, ap, _∙_}
 use mathlib.Core.Bool.{Bool, true, false, _||_, false≢true}
-use mathlib.Core.List.{List}
-use borrow.Author.Tests.{ne-eqb}
-use lib.Dec.{T, eqb, ltb, ltb→lt}
-use native.Mathlib.Numerals.{add-one}
-use lib.ListN.{getD, List·getD-eq-default}
+use lib.Dec.{T, eqb, leb, leb→le}
+use lib.ListN.{List·getD-eq-default}
 use Rattle.model.specs.declared.Truth.{Truth}
 use Rattle.model.specs.declared.Kind as Kinds
 use Rattle.model.specs.Bytes.{tabulate}
-use Rattle.model.specs.Circuit.{Kind, charged, free, refused, kinds, kindOf, charge, value}
+use Rattle.model.specs.Circuit.{Kind, charged, free, refused, kinds, kindOf, charge}
 use Rattle.model.specs.Refusals.{isRefused}
-use Rattle.model.proofs.Bits.{Bit, b0, b1}
-use Rattle.model.proofs.Codes.{FreeTable, code-means}
-use Rattle.model.proofs.Lists.{entry}
+use Rattle.model.proofs.Lists.{agree}
 use Rattle.model.proofs.Table.{every, at}
-use Rattle.circuit.specs.Answers.{meaning, TakesIs, threeBits, lastThrees}
+use Rattle.circuit.specs.Answers.{meaning, TakesIs, apart, bitsApart, bitsFrom, kindBit}
 
 past-codes : (code : ℕ) → 15 < code → kindOf code ≡ refused
 unfolding kindOf kinds
 past-codes code h = List·getD-eq-default kinds refused {n = code} (omega arith)
 
--- two functions of a code that agree on the sixteen
-agree : {A : Type 0} (d : A) (f g : ℕ → A) → tabulate 16 f ≡ tabulate 16 g → (code : ℕ) → code ≤ 15 → f code ≡ g code
-agree {A} d f g e code h =
-    sym (entry d 16 f code (omega arith)) ∙ ap (λ (xs : List A). getD xs code d) e ∙ entry d 16 g code (omega arith)
+-- ---- matched_kind
 
--- ---- matched_kind: the codes that no arm names are refused
+-- an arm gives the kind x of the code k that it names
+pub arm : (code k : ℕ) (r : Kinds.Kind) (x : Kind) → code ≡ k → meaning r ≡ x → x ≡ kindOf k → meaning r ≡ kindOf code
+arm code k r x is-code is-r is-x = rw is-code (is-r ∙ is-x)
 
-named : ℕ → Bool
-named k = eqb k 1 || eqb k 2 || eqb k 4 || eqb k 6 || eqb k 7 || eqb k 8 || eqb k 9 || eqb k 11 || eqb k 13 || eqb k 14
+-- 0, 15 and those above are refused
+outside : (code : ℕ) → (1 ≤ code → 15 ≤ code) → refused ≡ kindOf code
+outside code h = go (decLt 15 code) (decLt 0 code)
+  where
+    ends : (kindOf 0 ≡ refused) × (kindOf 15 ≡ refused)
+    ends = unfold kindOf kinds in (refl, refl)
 
-right : ℕ → ℕ → Bool
-right k x = named k || isRefused (kindOf k)
+    go : Dec (15 < code) → Dec (0 < code) → refused ≡ kindOf code
+    go (Dec.yes l) _ = sym (past-codes code l)
+    go (Dec.no l) (Dec.yes m) = let past = h m in let last : code ≡ 15 = omega arith in rw last (sym (ends .1))
+    go (Dec.no l) (Dec.no m) = let first : code ≡ 0 = omega arith in rw first (sym (ends .0))
 
--- computed over the sixteen codes that have four bits
-rule : T (every right 0 (tabulate 16 (λ i. i)))
-unfolding right named kindOf kinds
-rule = tt
+after : {code k : ℕ} → k ≤ code → (code ≡ k → ⊥) → suc k ≤ code
+after l h = omega arith
 
-other : (k : Kind) → T (isRefused k) → k ≡ refused
-other (charged u v x) t = absurd t
-other (free p q c) t = absurd t
-other refused t = refl
-
--- none of the arms' codes
-module _ (code : ℕ) (h1 : code ≡ 1 → ⊥) (h2 : code ≡ 2 → ⊥) (h4 : code ≡ 4 → ⊥) (h6 : code ≡ 6 → ⊥) (h7 : code ≡ 7 → ⊥)
-    (h8 : code ≡ 8 → ⊥) (h9 : code ≡ 9 → ⊥) (h11 : code ≡ 11 → ⊥) (h13 : code ≡ 13 → ⊥) (h14 : code ≡ 14 → ⊥) where
-  none : named code ≡ false
-  unfolding named
-  none =
-      simp (ne-eqb _ _ h1, ne-eqb _ _ h2, ne-eqb _ _ h4, ne-eqb _ _ h6, ne-eqb _ _ h7, ne-eqb _ _ h8, ne-eqb _ _ h9, ne-eqb _ _ h11, ne-eqb _ _ h13, ne-eqb _ _ h14)
-
-  small : code < 16 → kindOf code ≡ refused
-  unfolding right
-  small h = other (kindOf code) (rw none at (at right (tabulate 16 (λ i. i)) rule code h))
-
-  pub code-other : refused ≡ kindOf code
-  code-other = go (decLt code 16)
-    where
-      go : Dec (code < 16) → refused ≡ kindOf code
-      go (Dec.yes h) = sym (small h)
-      go (Dec.no h) = sym (past-codes code (omega arith))
+-- and they are the codes that no arm names
+pub code-other : (code : ℕ) → (code ≡ 1 → ⊥) → (code ≡ 2 → ⊥) → (code ≡ 3 → ⊥) → (code ≡ 4 → ⊥) → (code ≡ 5 → ⊥) → (code ≡ 6 → ⊥) → (code ≡ 7 → ⊥) → (code ≡ 8 → ⊥) → (code ≡ 9 → ⊥) → (code ≡ 10 → ⊥) → (code ≡ 11 → ⊥) → (code ≡ 12 → ⊥) → (code ≡ 13 → ⊥) → (code ≡ 14 → ⊥) → refused ≡ kindOf code
+code-other code h1 h2 h3 h4 h5 h6 h7 h8 h9 h10 h11 h12 h13 h14 =
+    outside code (λ m. after (after (after (after (after (after (after (after (after (after (after (after (after (after m h1) h2) h3) h4) h5) h6) h7) h8) h9) h10) h11) h12) h13) h14)
 
 -- ---- code_charge and code_refused: what the match gave
 
@@ -95,150 +75,141 @@ pub ruleset charge-cases = (charge-charged, charge-free, charge-refused)
 
 pub ruleset refused-cases = (charged-known, free-known, refused-known)
 
--- ---- code_takes
-
-module _ (code : ℕ) (k : Kinds.Kind) (is-k : meaning k ≡ kindOf code) where
-  pub takes-charged : (u v x : Truth) → k ≡ Kinds.Kind.Charged u v x → TakesIs (kindOf code) 1 1
-  takes-charged u v x e = rw (← is-k, e) (record { is-a = refl; is-b = refl; bit-a = omega arith; bit-b = omega arith })
-
-  pub takes-free : (p q c : Truth) → k ≡ Kinds.Kind.Free p q c → TakesIs (kindOf code) (p .0) (q .0)
-  takes-free p q c e =
-      let table : FreeTable (value code) (p .0) (q .0) (c .0) = rw (← is-k, e) at (code-means code) in
-      rw (← is-k, e) (record { is-a = refl; is-b = refl; bit-a = small (table .bit-p); bit-b = small (table .bit-q) })
-    where
-      small : {x : ℕ} → Bit x → x ≤ 1
-      small b0 = omega arith
-      small b1 = omega arith
-
-  pub takes-refused : k ≡ Kinds.Kind.Refused → TakesIs (kindOf code) 1 1
-  takes-refused e = rw (← is-k, e) (record { is-a = refl; is-b = refl; bit-a = omega arith; bit-b = omega arith })
-
-pub ruleset takes-cases = (takes-charged, takes-free, takes-refused)
-
--- ---- three_bits
+-- ---- kind_bits
 
 module _ (k : Kinds.Kind) where
-  pub three-charged : (u v x : Truth) → k ≡ Kinds.Kind.Charged u v x → (r : ℕ) → r ≡ 4 * u .0 + 2 * v .0 + x .0 → r ≡ threeBits (meaning k)
-  three-charged u v x e r is-r = rw e is-r
+  pub bits-charged : (u v x : Truth) → k ≡ Kinds.Kind.Charged u v x → (r : ℕ) → r ≡ apart 1 (u .0) (v .0) (x .0) → r ≡ bitsApart (meaning k)
+  bits-charged u v x e r is-r = rw e is-r
 
-  pub three-free : (p q c : Truth) → k ≡ Kinds.Kind.Free p q c → (r : ℕ) → r ≡ 4 * p .0 + 2 * q .0 + c .0 → r ≡ threeBits (meaning k)
-  three-free p q c e r is-r = rw e is-r
+  pub bits-free : (p q c : Truth) → k ≡ Kinds.Kind.Free p q c → (r : ℕ) → r ≡ apart 0 (p .0) (q .0) (c .0) → r ≡ bitsApart (meaning k)
+  bits-free p q c e r is-r = rw e is-r
 
-  pub three-refused : k ≡ Kinds.Kind.Refused → 0 ≡ threeBits (meaning k)
-  three-refused e = rw e
+  pub bits-refused : k ≡ Kinds.Kind.Refused → 0 ≡ bitsApart (meaning k)
+  bits-refused e = rw e
 
-pub ruleset three-cases = (three-charged, three-free, three-refused)
+pub ruleset bits-cases = (bits-charged, bits-free, bits-refused)
 
--- ---- all_threes
+-- ---- code_bits, four_bits and all_bits
 
--- one code more fits a number of 64 bits, computed at each of the sixteen
-fits : ℕ → ℕ → Bool
-fits i x = ltb (16 * lastThrees i + threeBits (kindOf (15 - i))) (2 ^ 64)
+few : ℕ → ℕ → Bool
+few code x = leb (bitsApart (kindOf code)) 0x1000100010001
 
-fit-rule : T (every fits 0 (tabulate 16 (λ i. i)))
-unfolding fits lastThrees kindOf kinds
-fit-rule = tt
+all-few : T (every few 0 (tabulate 16 (λ i. i)))
+unfolding few kindOf kinds
+all-few = tt
 
-module _ (i : ℕ) (h : i < 16) where
-  threes-fit : 16 * lastThrees i + threeBits (kindOf (15 - i)) < 2 ^ 64
-  unfolding fits
-  threes-fit = ltb→lt _ _ (at fits (tabulate 16 (λ i. i)) fit-rule i h)
+-- each of the four is at most 1
+bits-few : (code : ℕ) → bitsApart (kindOf code) ≤ 0x1000100010001
+unfolding few
+bits-few code = go (decLt 15 code)
+  where
+    go : Dec (15 < code) → bitsApart (kindOf code) ≤ 0x1000100010001
+    go (Dec.yes h) = rw (past-codes code h) (omega arith)
+    go (Dec.no h) = leb→le _ _ (at few (tabulate 16 (λ i. i)) all-few code (omega arith))
 
--- the codes done, and the number so far
-pub record Packing (i all : ℕ) : Type 0 where
-  pub few : i ≤ 16
-  pub is-all : all ≡ lastThrees i
+module _ (code : ℕ) (k : Kinds.Kind) (is-k : meaning k ≡ kindOf code) (r : ℕ) (is-r : r ≡ bitsApart (meaning k)) where
+  pub bits-are : r ≡ bitsApart (kindOf code)
+  bits-are = rw is-k at is-r
 
-pub packing-start : Packing 0 0
-unfolding lastThrees
-packing-start = record { few = omega arith; is-all = refl }
+  pub bits-small : r ≤ 0x1000100010001
+  bits-small = rw bits-are (bits-few code)
 
-module _ (i all : ℕ) (so-far : Packing i all) where
-  module _ (h : i < 16) where
-    pub pack-times : 16 * all < 2 ^ 64
-    pack-times = rw (so-far .is-all) (omega (arith, threes-fit i h))
+pub four-read : (code a b c d : ℕ) → a ≡ bitsApart (kindOf code) → b ≡ bitsApart (kindOf (code + 1)) → c ≡ bitsApart (kindOf (code + 2)) → d ≡ bitsApart (kindOf (code + 3))
+    → a + 2 * b + 4 * c + 8 * d ≡ bitsFrom 4 code
+unfolding bitsFrom
+four-read code a b c d is-a is-b is-c is-d =
+    let e : code + 2 ≡ code + 1 + 1 = omega arith in
+    let f : code + 3 ≡ code + 1 + 1 + 1 = omega arith in
+    rw (is-a, is-b, is-c, is-d, e, f) (omega arith)
 
-    module _ (k : Kinds.Kind) (is-k : meaning k ≡ kindOf (15 - i)) (r : ℕ) (is-r : r ≡ threeBits (meaning k)) where
-      pub pack-sum : 16 * all + r < 2 ^ 64
-      pack-sum = rw (so-far .is-all, is-r, is-k) (threes-fit i h)
+pub sixteen-read : (a b c d : ℕ) → a ≡ bitsFrom 4 0 → b ≡ bitsFrom 4 4 → c ≡ bitsFrom 4 8 → d ≡ bitsFrom 4 12
+    → a + 16 * b + 256 * c + 4096 * d ≡ bitsFrom 16 0
+unfolding bitsFrom kindOf kinds
+sixteen-read a b c d is-a is-b is-c is-d = rw (is-a, is-b, is-c, is-d)
 
-      pub packing-turn : Packing (i + 1) (16 * all + r)
-      unfolding lastThrees
-      packing-turn = record { few = omega arith; is-all = rw (add-one, so-far .is-all, is-r, is-k) }
+-- ---- code_bit
 
-  pub packing-end : 16 ≤ i → all ≡ lastThrees 16
-  packing-end h = so-far .is-all ∙ ap lastThrees (omega (arith, so-far .few))
+bit-places : (i code : ℕ) → i ≤ 3 → code ≤ 15 → bitsFrom 16 0 / 2 ^ (16 * i + code) % 2 ≡ kindBit i (kindOf code)
+unfolding bitsFrom kindOf kinds
+bit-places zero code l h = agree 0 (λ k. bitsFrom 16 0 / 2 ^ (16 * 0 + k) % 2) (λ k. kindBit 0 (kindOf k)) refl code h
+bit-places (suc zero) code l h = agree 0 (λ k. bitsFrom 16 0 / 2 ^ (16 * 1 + k) % 2) (λ k. kindBit 1 (kindOf k)) refl code h
+bit-places (suc (suc zero)) code l h = agree 0 (λ k. bitsFrom 16 0 / 2 ^ (16 * 2 + k) % 2) (λ k. kindBit 2 (kindOf k)) refl code h
+bit-places (suc (suc (suc zero))) code l h = agree 0 (λ k. bitsFrom 16 0 / 2 ^ (16 * 3 + k) % 2) (λ k. kindBit 3 (kindOf k)) refl code h
+bit-places (suc (suc (suc (suc i)))) code l h = absurd (omega arith)
 
--- ---- code_three
+pub bit-read : (i code all : ℕ) → i ≤ 3 → code ≤ 15 → all ≡ bitsFrom 16 0 → all / 2 ^ (16 * i + code) % 2 ≡ kindBit i (kindOf code)
+bit-read i code all l h e = rw e (bit-places i code l h)
 
-three-places : (code : ℕ) → code ≤ 15 → lastThrees 16 / 2 ^ (4 * code) % 16 ≡ threeBits (kindOf code)
-unfolding lastThrees kindOf kinds
-three-places code h = agree 0 (λ k. lastThrees 16 / 2 ^ (4 * k) % 16) (λ k. threeBits (kindOf k)) refl code h
+-- ---- what the four bits of a code that is not refused say of it
 
-pub three-read : (code all : ℕ) → code ≤ 15 → all ≡ lastThrees 16 → all / 2 ^ (4 * code) % 16 ≡ threeBits (kindOf code)
-three-read code all h e = rw e (three-places code h)
+pub code-known : (code : ℕ) → isRefused (kindOf code) ≡ false → code ≤ 15
+code-known code known = go (decLt 15 code)
+  where
+    go : Dec (15 < code) → code ≤ 15
+    go (Dec.yes l) = absurd (false≢true (sym known ∙ ap isRefused (past-codes code l)))
+    go (Dec.no l) = omega arith
 
--- ---- code_kind
+-- and as another function found it
+pub code-found : (code : ℕ) (b : Bool) → b ≡ isRefused (kindOf code) → b ≡ false → code ≤ 15
+code-found code b is-b e = code-known code (sym is-b ∙ e)
 
--- a kind, with what its three bits have
-read : Kind → Kind
-read (charged u v x) = charged (threeBits (charged u v x) / 4) (threeBits (charged u v x) / 2 % 2) (threeBits (charged u v x) % 2)
-read (free p q c) = free (threeBits (free p q c) / 4) (threeBits (free p q c) / 2 % 2) (threeBits (free p q c) % 2)
-read refused = refused
+pub charge-read : (k : Kind) (w : ℕ) → w ≡ kindBit 0 k → w ≡ charge k
+charge-read (charged u v x) w e = e
+charge-read (free p q c) w e = e
+charge-read refused w e = e
 
-read-right : (code : ℕ) → code ≤ 15 → read (kindOf code) ≡ kindOf code
-unfolding kindOf kinds read
-read-right code h = agree refused (λ k. read (kindOf k)) kindOf refl code h
+pub takes-fit : (p q : ℕ) → p ≤ 1 → q ≤ 1 → p * q < 256
+takes-fit p q lp lq = omega (arith, mul-le-mul lp lq)
 
-module _ (code : ℕ) where
-  in-use : (kindOf code ≡ refused → ⊥) → code ≤ 15
-  in-use h = go (decLt 15 code)
+-- a free code takes one operand at least, computed over the sixteen
+takes : ℕ → ℕ → Bool
+takes code x = isRefused (kindOf code) || eqb (charge (kindOf code)) 1 || leb 1 (kindBit 1 (kindOf code) + kindBit 2 (kindOf code))
+
+all-take : T (every takes 0 (tabulate 16 (λ i. i)))
+unfolding takes kindOf kinds
+all-take = tt
+
+module _ (code : ℕ) (known : isRefused (kindOf code) ≡ false) (none : charge (kindOf code) ≡ 0) where
+  takes-one : 1 ≤ kindBit 1 (kindOf code) + kindBit 2 (kindOf code)
+  unfolding takes
+  takes-one = leb→le _ _ (rw (known, none) at (at takes (tabulate 16 (λ i. i)) all-take code (omega (arith, code-known code known))))
+
+  pub takes-free : (p q : ℕ) → p ≡ kindBit 1 (kindOf code) → p ≤ 1 → q ≡ kindBit 2 (kindOf code) → q ≤ 1 → TakesIs (kindOf code) p (p * q)
+  takes-free p q is-p lp is-q lq = record {
+    q = q;
+    c = kindBit 3 (kindOf code);
+    is-free = rw (is-p, is-q) (go (kindOf code) known none);
+    is-both = refl;
+    bit-a = lp;
+    bit-q = lq;
+    one = rw (is-p, is-q) takes-one;
+  }
     where
-      go : Dec (15 < code) → code ≤ 15
-      go (Dec.yes l) = absurd (h (past-codes code l))
-      go (Dec.no l) = omega arith
+      go : (k : Kind) → isRefused k ≡ false → charge k ≡ 0 → k ≡ free (kindBit 1 k) (kindBit 2 k) (kindBit 3 k)
+      go (charged u v x) e h = absurd (omega arith)
+      go (free p q c) e h = refl
+      go refused e h = absurd (false≢true (sym e))
 
-  module _ (x : ℕ) (is-x : x ≡ charge (kindOf code)) (one : x ≡ 1) where
-    pub charged-code : code ≤ 15
-    charged-code = in-use (λ e. go (rw e at is-x))
-      where
-        go : x ≡ 0 → ⊥
-        go e = omega arith
+pub kind-refused : (k : Kind) (b : Bool) → b ≡ isRefused k → b ≡ true → refused ≡ k
+kind-refused (charged u v x) b is-b e = absurd (false≢true (sym is-b ∙ e))
+kind-refused (free p q c) b is-b e = absurd (false≢true (sym is-b ∙ e))
+kind-refused refused b is-b e = refl
 
-    pub kind-charged : (t : ℕ) → t ≡ threeBits (kindOf code) → charged (t / 4) (t / 2 % 2) (t % 2) ≡ kindOf code
-    unfolding read
-    kind-charged t is-t = rw is-t (go (kindOf code) (read-right code charged-code) (sym is-x ∙ one))
-      where
-        none : charge refused ≡ 1 → ⊥
-        none e = omega arith
-
-        go : (k : Kind) → read k ≡ k → charge k ≡ 1 → charged (threeBits k / 4) (threeBits k / 2 % 2) (threeBits k % 2) ≡ k
-        go (charged _ _ _) e _ = e
-        go (free _ _ _) _ h = absurd (none h)
-        go refused _ h = absurd (none h)
-
-  pub kind-refused : (b : Bool) → b ≡ isRefused (kindOf code) → b ≡ true → refused ≡ kindOf code
-  kind-refused b is-b e = go (kindOf code) (sym is-b ∙ e)
+module _ (k : Kind) (w x y z : ℕ) (is-w : w ≡ kindBit 0 k) (is-x : x ≡ kindBit 1 k) (is-y : y ≡ kindBit 2 k) (is-z : z ≡ kindBit 3 k) where
+  pub kind-charged : w ≡ 1 → charged x y z ≡ k
+  kind-charged one = rw (is-x, is-y, is-z) (go k (sym is-w ∙ one))
     where
-      go : (k : Kind) → isRefused k ≡ true → refused ≡ k
-      go (charged _ _ _) h = absurd (false≢true h)
-      go (free _ _ _) h = absurd (false≢true h)
-      go refused h = refl
+      go : (k : Kind) → kindBit 0 k ≡ 1 → charged (kindBit 1 k) (kindBit 2 k) (kindBit 3 k) ≡ k
+      go (charged u v x) e = refl
+      go (free p q c) e = absurd (omega arith)
+      go refused e = absurd (omega arith)
 
-  module _ (b : Bool) (is-b : b ≡ isRefused (kindOf code)) (no : b ≡ false) where
-    pub free-code : code ≤ 15
-    free-code = in-use (λ e. go (rw e at is-b))
-      where
-        go : b ≡ true → ⊥
-        go e = false≢true (sym no ∙ e)
+  pub kind-free : (w ≡ 1 → ⊥) → (b : Bool) → b ≡ isRefused k → b ≡ false → free x y z ≡ k
+  kind-free none b is-b known = rw (is-x, is-y, is-z) (go k (λ e. none (is-w ∙ e)) (sym is-b ∙ known))
+    where
+      go : (k : Kind) → (kindBit 0 k ≡ 1 → ⊥) → isRefused k ≡ false → free (kindBit 1 k) (kindBit 2 k) (kindBit 3 k) ≡ k
+      go (charged u v x) n e = absurd (n refl)
+      go (free p q c) n e = refl
+      go refused n e = absurd (false≢true (sym e))
 
-    pub kind-free : (x : ℕ) → x ≡ charge (kindOf code) → (x ≡ 1 → ⊥) → (t : ℕ) → t ≡ threeBits (kindOf code) → free (t / 4) (t / 2 % 2) (t % 2) ≡ kindOf code
-    unfolding read
-    kind-free x is-x h t is-t = rw is-t (go (kindOf code) (read-right code free-code) (sym is-b ∙ no) (λ e. h (is-x ∙ e)))
-      where
-        go : (k : Kind) → read k ≡ k → isRefused k ≡ false → (charge k ≡ 1 → ⊥) → free (threeBits k / 4) (threeBits k / 2 % 2) (threeBits k % 2) ≡ k
-        go (charged _ _ _) _ _ l = absurd (l refl)
-        go (free _ _ _) e _ _ = e
-        go refused _ l _ = absurd (false≢true (sym l))
-
-pub ruleset kind-cases = (charged-code, kind-charged, kind-refused, free-code, kind-free)
+pub ruleset kind-cases = (code-found, kind-refused, kind-charged, kind-free)

@@ -1,7 +1,7 @@
 -- The answers of the inner functions, in the model's terms: each enum as a verdict or an `Answer`, and what it must be.
-use Prim.Native.Nat.{ℕ, zero, suc, _+_, _*_, _-_, _≤_}
+use Prim.Native.Nat.{ℕ, zero, suc, _+_, _*_, _≤_}
 use mathlib.Core.Path.{_≡_}
-use mathlib.Core.List.{List}
+use mathlib.Core.List.{List, [], _∷_}
 use lib.ListN.{length, getD, take}
 use Rattle.model.specs.declared.Gate.{Gate}
 use Rattle.model.specs.declared.Kind as Kinds
@@ -24,33 +24,36 @@ meaning (Kinds.Kind.Charged u v own) = charged (u .0) (v .0) (own .0)
 meaning (Kinds.Kind.Free p q c) = free (p .0) (q .0) (c .0)
 meaning Kinds.Kind.Refused = refused
 
--- whether a gate of a kind takes its operands
-abbrev pub takesA : Kind → ℕ
-takesA (charged u v x) = 1
-takesA (free p q c) = p
-takesA refused = 1
-
-abbrev pub takesB : Kind → ℕ
-takesB (charged u v x) = 1
-takesB (free p q c) = q
-takesB refused = 1
-
-pub record TakesIs (k : Kind) (a b : ℕ) : Type 0 where
-  pub is-a : a ≡ takesA k
-  pub is-b : b ≡ takesB k
+-- a gate of a free kind takes its operand a where a is 1, and b with it where both is 1; where a is 0 it takes b alone
+pub record TakesIs (k : Kind) (a both : ℕ) : Type 0 where
+  pub q : ℕ
+  pub c : ℕ
+  pub is-free : k ≡ free a q c
+  pub is-both : both ≡ a * q
   pub bit-a : a ≤ 1
-  pub bit-b : b ≤ 1
+  pub bit-q : q ≤ 1
+  pub one : 1 ≤ a + q
 
--- what a kind has beside its case, as the bits of one number
-abbrev pub threeBits : Kind → ℕ
-threeBits (charged u v x) = 4 * u + 2 * v + x
-threeBits (free p q c) = 4 * p + 2 * q + c
-threeBits refused = 0
+-- what a kind has, as four bits: whether it is charged; and of a charged one its pair and the value there, of a free one p, q and c
+abbrev pub kindBits : Kind → List ℕ
+kindBits (charged u v x) = 1 ∷ u ∷ v ∷ x ∷ []
+kindBits (free p q c) = 0 ∷ p ∷ q ∷ c ∷ []
+kindBits refused = 0 ∷ 0 ∷ 0 ∷ 0 ∷ []
 
--- that of the last i of the sixteen codes in one number, four places for each, the lowest code lowest
-unfoldable pub lastThrees : ℕ → ℕ
-lastThrees zero = 0
-lastThrees (suc i) = 16 * lastThrees i + threeBits (kindOf (15 - i))
+abbrev pub kindBit : ℕ → Kind → ℕ
+kindBit i k = getD (kindBits k) i 0
+
+-- four bits in one number, sixteen places apart
+abbrev pub apart : ℕ → ℕ → ℕ → ℕ → ℕ
+apart w x y z = w + 0x10000 * x + 0x100000000 * y + 0x1000000000000 * z
+
+abbrev pub bitsApart : Kind → ℕ
+bitsApart k = apart (kindBit 0 k) (kindBit 1 k) (kindBit 2 k) (kindBit 3 k)
+
+-- those of i codes from one on in one number, a place for each, the lowest code lowest
+unfoldable pub bitsFrom : ℕ → ℕ → ℕ
+bitsFrom zero code = 0
+bitsFrom (suc i) code = bitsApart (kindOf code) + 2 * bitsFrom i (code + 1)
 
 -- ---- the header
 

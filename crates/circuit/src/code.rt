@@ -1,41 +1,56 @@
 // What a code means: its kind, and its value for two truth values.
 ghost use mathlib.Core.Path.{_≡_};
+ghost use mathlib.Core.Bool.{false};
 ghost use Prim.Native.Nat.{_+_, _*_, _≤_};
-ghost use Rattle.model.specs.Circuit.{value, kindOf, charge};
+ghost use Rattle.model.specs.Circuit.{charged, free, value, kindOf, charge};
 ghost use Rattle.model.specs.Refusals.{isRefused};
-ghost use Rattle.circuit.specs.Answers.{meaning, TakesIs, threeBits, lastThrees};
+ghost use Rattle.circuit.specs.Answers.{meaning, TakesIs, apart, bitsApart, bitsFrom, kindBit};
 use model::Kind;
 use model::Truth;
 
-// The match over the code number, one arm for each code that is not refused (01, Circuit). It is the one place that knows the codes:
-// whatever else is asked of a code comes from here.
-fn matched_kind(code: u8) -> Kind
+// A charged kind: the pair (u, v) has a value of its own.
+fn charged_kind(u: u8, v: u8, own: u8) -> Kind
+    ensures { λ r. ⌜ meaning r ≡ charged u v own ⌝ }
+{
+    Kind::Charged(Truth(u), Truth(v), Truth(own))
+}
+
+// A free kind: the value is pu ⊕ qv ⊕ c.
+fn free_kind(p: u8, q: u8, c: u8) -> Kind
+    ensures { λ r. ⌜ meaning r ≡ free p q c ⌝ }
+{
+    Kind::Free {
+        p: Truth(p),
+        q: Truth(q),
+        c: Truth(c),
+    }
+}
+
+// The match over the code number, one arm for each code that is not refused (01, Circuit; 02, job 2). It is the one place that knows
+// the codes: whatever else is asked of a code comes from here.
+pub fn matched_kind(code: u8) -> Kind
     ensures { λ r. ⌜ meaning r ≡ kindOf code ⌝ }
 {
     match code {
-        1 => Kind::Charged(Truth(0), Truth(0), Truth(1)),
-        2 => Kind::Charged(Truth(0), Truth(1), Truth(1)),
-        4 => Kind::Charged(Truth(1), Truth(0), Truth(1)),
-        6 => Kind::Free {
-            p: Truth(1),
-            q: Truth(1),
-            c: Truth(0),
-        },
-        7 => Kind::Charged(Truth(1), Truth(1), Truth(0)),
-        8 => Kind::Charged(Truth(1), Truth(1), Truth(1)),
-        9 => Kind::Free {
-            p: Truth(1),
-            q: Truth(1),
-            c: Truth(1),
-        },
-        11 => Kind::Charged(Truth(1), Truth(0), Truth(0)),
-        13 => Kind::Charged(Truth(0), Truth(1), Truth(0)),
-        14 => Kind::Charged(Truth(0), Truth(0), Truth(0)),
+        1 => charged_kind(0, 0, 1),
+        2 => charged_kind(0, 1, 1),
+        3 => free_kind(1, 0, 1),
+        4 => charged_kind(1, 0, 1),
+        5 => free_kind(0, 1, 1),
+        6 => free_kind(1, 1, 0),
+        7 => charged_kind(1, 1, 0),
+        8 => charged_kind(1, 1, 1),
+        9 => free_kind(1, 1, 1),
+        10 => free_kind(0, 1, 0),
+        11 => charged_kind(1, 0, 0),
+        12 => free_kind(1, 0, 0),
+        13 => charged_kind(0, 1, 0),
+        14 => charged_kind(0, 0, 0),
         _ => Kind::Refused,
     }
 }
 
-// What a code adds to p.
+// What a code adds to p, for any code.
 pub fn code_charge(code: u8) -> usize
     ensures { λ r. ⌜ r ≡ charge (kindOf code) ⌝ }
 {
@@ -47,7 +62,7 @@ pub fn code_charge(code: u8) -> usize
 }
 
 // Whether a code is refused.
-pub fn code_refused(code: u8) -> bool
+fn code_refused(code: u8) -> bool
     ensures { λ r. ⌜ r ≡ isRefused (kindOf code) ⌝ }
 {
     match matched_kind(code) {
@@ -57,67 +72,89 @@ pub fn code_refused(code: u8) -> bool
     }
 }
 
-// Which operands a gate takes, 1 for each that it does.
-pub struct Takes {
-    pub a: Truth,
-    pub b: Truth,
-}
-
-// Those of a code: of a free one p and q, of a charged one both. No accepted circuit has a refused one.
-pub fn code_takes(code: u8) -> Takes
-    ensures { λ r. ⌜ TakesIs (kindOf code) (r .a .0) (r .b .0) ⌝ }
+// Four bits in one number, sixteen places apart.
+fn spread(w: u64, x: Truth, y: Truth, z: Truth) -> u64
+    requires { ⌜ w ≤ 1 ⌝ }
+    ensures { λ r. ⌜ r ≡ apart w (x .0) (y .0) (z .0) ⌝ }
 {
-    match matched_kind(code) {
-        Kind::Charged(_, _, _) => Takes {
-            a: Truth(1),
-            b: Truth(1),
-        },
-        Kind::Free { p, q, c: _ } => Takes { a: p, b: q },
-        Kind::Refused => Takes {
-            a: Truth(1),
-            b: Truth(1),
-        },
-    }
+    w + 0x10000 * (x.0 as u64) + 0x100000000 * (y.0 as u64) + 0x1000000000000 * (z.0 as u64)
 }
 
-// Three truth values as the bits of one number.
-fn joined(x: Truth, y: Truth, z: Truth) -> u64
-    ensures { λ r. ⌜ r ≡ 4 * x .0 + 2 * y .0 + z .0 ⌝ }
-{
-    4 * (x.0 as u64) + 2 * (y.0 as u64) + (z.0 as u64)
-}
-
-// What a kind has beside its case: a charged one its pair and the value there, a free one p, q and c.
-fn three_bits(k: Kind) -> u64
-    ensures { λ r. ⌜ r ≡ threeBits (meaning k) ⌝ }
+// What a kind has, so: whether it is charged; and of a charged one its pair and the value there, of a free one p, q and c.
+fn kind_bits(k: Kind) -> u64
+    ensures { λ r. ⌜ r ≡ bitsApart (meaning k) ⌝ }
 {
     match k {
-        Kind::Charged(u, v, own) => joined(u, v, own),
-        Kind::Free { p, q, c } => joined(p, q, c),
+        Kind::Charged(u, v, own) => spread(1, u, v, own),
+        Kind::Free { p, q, c } => spread(0, p, q, c),
         Kind::Refused => 0,
     }
 }
 
-// The same of all sixteen codes, four places of one number for each, code 0 lowest. The compiler works this out: what is left of it
-// and of the match is a number.
-fn all_threes() -> u64
-    ensures { λ r. ⌜ r ≡ lastThrees 16 ⌝ }
+// The same of the kind of a code.
+fn code_bits(code: u8) -> u64
+    ensures { λ r. ⌜ (r ≡ bitsApart (kindOf code)) × (r ≤ 0x1000100010001) ⌝ }
 {
-    let mut all: u64 = 0;
-    let mut done: u8 = 0;
-    while done < 16 {
-        all = 16 * all + three_bits(matched_kind(15 - done));
-        done += 1;
-    }
-    all
+    kind_bits(matched_kind(code))
 }
 
-// The places of one code.
-fn code_three(code: u8) -> u8
-    requires { ⌜ code ≤ 15 ⌝ }
-    ensures { λ r. ⌜ r ≡ threeBits (kindOf code) ⌝ }
+// The same of four codes from this one on, in one number: a place for each.
+fn four_bits(code: u8) -> u64
+    requires { ⌜ code ≤ 12 ⌝ }
+    ensures { λ r. ⌜ (r ≡ bitsFrom 4 code) × (r ≤ 0xF000F000F000F) ⌝ }
 {
-    ((all_threes() >> (4 * (code as u32))) % 16) as u8
+    let a = code_bits(code);
+    let b = code_bits(code + 1);
+    let c = code_bits(code + 2);
+    let d = code_bits(code + 3);
+    a + 2 * b + 4 * c + 8 * d
+}
+
+// The same of all sixteen. The compiler works this out, since the codes stand here as numbers: what is left of it and of the match
+// is a number.
+fn all_bits() -> u64
+    ensures { λ r. ⌜ r ≡ bitsFrom 16 0 ⌝ }
+{
+    let a = four_bits(0);
+    let b = four_bits(4);
+    let c = four_bits(8);
+    let d = four_bits(12);
+    a + 16 * b + 256 * c + 4096 * d
+}
+
+// One of the four bits of a code, from 0.
+fn code_bit(i: u8, code: u8) -> u8
+    requires { ⌜ (i ≤ 3) × (code ≤ 15) ⌝ }
+    ensures { λ r. ⌜ (r ≡ kindBit i (kindOf code)) × (r ≤ 1) ⌝ }
+{
+    ((all_bits() >> (16 * (i as u32) + (code as u32))) % 2) as u8
+}
+
+// What a code that is not refused adds to p, for the walk over an accepted circuit.
+pub fn used_charge(code: u8) -> usize
+    requires { ⌜ isRefused (kindOf code) ≡ false ⌝ }
+    ensures { λ r. ⌜ r ≡ charge (kindOf code) ⌝ }
+{
+    code_bit(0, code) as usize
+}
+
+// Which operands a free gate takes: whether a, and whether b with it. One that does not take a takes b.
+pub struct Takes {
+    pub a: Truth,
+    pub both: Truth,
+}
+
+// Those of a free code, by p and q.
+pub fn code_takes(code: u8) -> Takes
+    requires { ⌜ (isRefused (kindOf code) ≡ false) × (charge (kindOf code) ≡ 0) ⌝ }
+    ensures { λ r. ⌜ TakesIs (kindOf code) (r .a .0) (r .both .0) ⌝ }
+{
+    let p = code_bit(1, code);
+    let q = code_bit(2, code);
+    Takes {
+        a: Truth(p),
+        both: Truth(p * q),
+    }
 }
 
 // The kind of a code, for the operations. It is what the match gives, and no jump by the code: codes come in any order, and a jump for
@@ -125,19 +162,16 @@ fn code_three(code: u8) -> u8
 pub fn code_kind(code: u8) -> Kind
     ensures { λ r. ⌜ meaning r ≡ kindOf code ⌝ }
 {
-    if code_charge(code) == 1 {
-        let x = code_three(code);
-        return Kind::Charged(Truth(x / 4), Truth(x / 2 % 2), Truth(x % 2));
-    }
     if code_refused(code) {
         return Kind::Refused;
     }
-    let x = code_three(code);
-    Kind::Free {
-        p: Truth(x / 4),
-        q: Truth(x / 2 % 2),
-        c: Truth(x % 2),
+    let x = Truth(code_bit(1, code));
+    let y = Truth(code_bit(2, code));
+    let z = Truth(code_bit(3, code));
+    if code_bit(0, code) == 1 {
+        return Kind::Charged(x, y, z);
     }
+    Kind::Free { p: x, q: y, c: z }
 }
 
 // Bit 2u+v of the code (01, Circuit).

@@ -4,10 +4,10 @@ ghost use Prim.Native.Nat.{_+_, _*_, _≤_, _<_};
 ghost use lib.ListN.{length};
 ghost use Rattle.model.specs.Circuit.{gateAt};
 ghost use Rattle.circuit.specs.Answers.{gateOf, gateAnswer, recordAnswer, searchOf, searchAnswer};
-use crate::code::code_charge;
-use crate::code::code_refused;
+use crate::code::matched_kind;
 use buffer::read16;
 use model::Gate;
+use model::Kind;
 use model::Refusal;
 use model::Wire;
 
@@ -51,10 +51,11 @@ pub fn read_gate(own: Wire, g: Gate) -> GateRead
     if own.0 <= g.b.0 {
         return GateRead::Fault(Refusal::Operands(own));
     }
-    if code_refused(g.code) {
-        return GateRead::Fault(Refusal::Code(own));
+    match matched_kind(g.code) {
+        Kind::Charged(_, _, _) => GateRead::Fine(1),
+        Kind::Free { p: _, q: _, c: _ } => GateRead::Fine(0),
+        Kind::Refused => GateRead::Fault(Refusal::Code(own)),
     }
-    GateRead::Fine(code_charge(g.code))
 }
 
 // Refusals 5 to 7 of gate record k, in a circuit of n inputs.

@@ -4,16 +4,19 @@ use native.Mathlib.Nat.{mul-le-mul, zero-mul}
 use native.Mathlib.Numerals.{add-one}
 use native.Mathlib.Omega.{arith}
 use mathlib.Core.Path.{_≡_, refl, sym, ap, ap₂, _∙_}
-use mathlib.Core.Bool.{false, false≢true}
+use mathlib.Core.Bool.{Bool, true, false, cond}
 use mathlib.Core.List.{List, [], _∷_, _++_}
+use borrow.Author.Tests.{eq-eqb, ne-eqb}
+use lib.Dec.{eqb}
 use lib.ListN.{length, getD, take, drop, take-append-drop}
 use lib.Seq.{drop-drop, length-take-le, take-at}
 use mir.Syntax.{w16, w64}
 use mir.Val.{Fits}
 use Rattle.model.specs.declared.Gate.{Gate}
+use Rattle.model.specs.declared.Wire.{Wire}
 use Rattle.model.specs.Bytes.{tabulate, over, put}
 use Rattle.model.specs.Circuit.{Kind, charged, free, refused, circuitOf, inputs, outputs, gates, gateAt, gateWire, kindOf, charge, charges, wire}
-use Rattle.model.specs.Aes.{Block, block}
+use Rattle.model.specs.Aes.{Block, _⊕_, block, times}
 use Rattle.model.specs.Scheme.{Scheme, recordLength}
 use Rattle.model.specs.Garbling.{schemeOf}
 use Rattle.model.specs.Tokens.{freeToken}
@@ -22,6 +25,9 @@ use Rattle.model.specs.Evaluation.{cut, openAt, openStep, run, evaluate, evalua
 use Rattle.model.specs.Calls.{evaluateAsks, evaluateCallsAt, evaluateCalls}
 use Rattle.model.specs.Operations.{evaluateCallsOf}
 use Rattle.model.specs.Refusals.{isRefused}
+use Rattle.model.proofs.Bits.{Bit, b0, b1, bit-of}
+use Rattle.model.proofs.Xor.{⊕-comm}
+use Rattle.model.proofs.XorRules.{times-0, times-1}
 use Rattle.model.proofs.Codes.{Used, used-charged, used-free}
 use Rattle.model.proofs.Accepted.{HeaderHolds, GateHolds, accepted-header, accepted-gate}
 use Rattle.model.proofs.Lists.{tabulate-snoc, tabulate-length}
@@ -34,18 +40,27 @@ use Rattle.model.proofs.Gates.{open-at-wide}
 use Rattle.model.proofs.Lengths.{run-blocks}
 use Rattle.model.proofs.OneMore.{run-snoc}
 use Rattle.model.proofs.Schemes.{scheme-sound}
-use Rattle.circuit.specs.Answers.{TakesIs, takesA, takesB}
+use Rattle.circuit.specs.Answers.{TakesIs}
 use Rattle.scheme.specs.declared.OpenedGate.{OpenedGate}
 use Rattle.scheme.specs.Garbled.{OpenedIs}
 use Rattle.scheme.specs.Rows.{RecordRoom}
 use Rattle.evaluate.specs.Walk.{Operands, GateRoom, TokenStart, TokenIs, FreeTokenIs, OpenStart, OpenedTo, WalkStart, WiresStart, S, tokensTo, Walking, WalkedIs, WiresAre}
 
--- a free gate's token, from the operands that its code takes
-free-opened : (S : Scheme) (k : Kind) → isRefused k ≡ false → charge k ≡ 0 → (g : ℕ) (bs : List ℕ) (a b : Block) → openAt S k g bs a b ≡ freeToken (takesA k) (takesB k) a b
-unfolding openAt
-free-opened S (charged u v x) known none g bs a b = absurd (omega arith)
-free-opened S (free p q c) known none g bs a b = refl
-free-opened S refused known none g bs a b = absurd (false≢true (sym known))
+-- a free gate's token, from what its code takes: F is held on the operand that it takes, or on the first of both
+module _ (k : Kind) (a both : ℕ) (takes : TakesIs k a both) (A B F : Block) (is-F : F ≡ cond (eqb a 1) A B) where
+  by-operands : F ⊕ times both B ≡ freeToken a (takes .q) A B
+  unfolding freeToken
+  by-operands = rw (takes .is-both, is-F) (go (bit-of a (takes .bit-a)) (bit-of (takes .q) (takes .bit-q)) (takes .one))
+    where
+      go : {a q : ℕ} → Bit a → Bit q → 1 ≤ a + q → cond (eqb a 1) A B ⊕ times (a * q) B ≡ times a A ⊕ times q B
+      go b0 b0 h = absurd (omega arith)
+      go b0 b1 h = rw (times-0, times-0, times-1) (⊕-comm B (block 0))
+      go b1 b0 h = ap (_⊕ times 0 B) (sym (times-1 A))
+      go b1 b1 h = ap (_⊕ times 1 B) (sym (times-1 A))
+
+  free-opened : (S : Scheme) (g : ℕ) (bs : List ℕ) → F ⊕ times both B ≡ openAt S k g bs A B
+  unfolding openAt
+  free-opened S g bs = by-operands ∙ rw (takes .is-free)
 
 -- a charged gate's token, by its scheme
 charged-opens : (S : Scheme) (k : Kind) → charge k ≡ 1 → (g : ℕ) (bs : List ℕ) (A B : Block) → openAt S k g bs A B ≡ S .opened g (cut (S .stored) (drop 4 bs)) A B
@@ -79,32 +94,63 @@ module _ (n k : ℕ) (g : Gate) (d : List ℕ) (start : Operands n k g d) where
   pub token-load-b : 16 * (g .b .0 - 1) + 16 ≤ length d
   token-load-b = omega (arith, start .order, start .b-high, start .token-room)
 
-module _ (n k : ℕ) (g : Gate) (d : List ℕ) (A B : Block) (is-A : A ≡ take 16 (drop (16 * (g .a .0 - 1)) d)) (is-B : B ≡ take 16 (drop (16 * (g .b .0 - 1)) d))
-    (d′ : List ℕ) where
-  pub free-done : (x : Block) → d′ ≡ put d (16 * (n + k)) x → Operands n k g d → charge (kindOf (g .code)) ≡ 0 → (a b : ℕ) → TakesIs (kindOf (g .code)) a b → x ≡ freeToken a b A B → FreeTokenIs n k g d d′
+  -- the same of either of the two
+  module _ (a : ℕ) (f : Wire) (is-f : f ≡ cond (eqb a 1) (g .a) (g .b)) where
+    pub token-low-first : 1 ≤ f .0
+    token-low-first = rw is-f (go (eqb a 1))
+      where
+        go : (x : Bool) → 1 ≤ cond x (g .a) (g .b) .0
+        go true = start .a-low
+        go false = token-low-b
+
+    pub token-load-first : 16 * (f .0 - 1) + 16 ≤ length d
+    token-load-first = rw is-f (go (eqb a 1))
+      where
+        go : (x : Bool) → 16 * (cond x (g .a) (g .b) .0 - 1) + 16 ≤ length d
+        go true = token-load-a
+        go false = token-load-b
+
+-- first_taken
+module _ (a : ℕ) (x y : Wire) where
+  pub first-a : a ≡ 1 → x ≡ cond (eqb a 1) x y
+  first-a e = rw (eq-eqb _ _ e)
+
+  pub first-b : (a ≡ 1 → ⊥) → y ≡ cond (eqb a 1) x y
+  first-b e = rw (ne-eqb _ _ e)
+
+pub both-low : (k : Kind) (a both : ℕ) → TakesIs k a both → both ≤ 1
+both-low k a both takes = omega (arith, takes .is-both, mul-le-mul (takes .bit-a) (takes .bit-q))
+
+module _ (n k : ℕ) (g : Gate) (d : List ℕ) (B : Block) (is-B : B ≡ take 16 (drop (16 * (g .b .0 - 1)) d)) (d′ : List ℕ) where
+  pub free-done : charge (kindOf (g .code)) ≡ 0 → (a both : ℕ) → TakesIs (kindOf (g .code)) a both → (f : Wire) → f ≡ cond (eqb a 1) (g .a) (g .b)
+      → (F : Block) → F ≡ take 16 (drop (16 * (f .0 - 1)) d) → (x : Block) → x ≡ F ⊕ times both B → d′ ≡ put d (16 * (n + k)) x → FreeTokenIs n k g d d′
   unfolding tokenAt
-  free-done x is-d start h a b takes is-x = record {
+  free-done h a both takes f is-f F is-F x is-x is-d = record {
     left = λ scheme s at. record {
       token-left =
-          let opened : x ≡ openAt (schemeOf scheme) (kindOf (g .code)) (gateWire n k) (drop at s) A B =
-          is-x ∙ rw (takes .is-a, takes .is-b) (sym (free-opened (schemeOf scheme) (kindOf (g .code)) (start .known) h (gateWire n k) (drop at s) A B)) in
-          is-d ∙ rw (opened, is-A, is-B);
+          let A : Block = take 16 (drop (16 * (g .a .0 - 1)) d) in
+          let opened = free-opened (kindOf (g .code)) a both takes A B F (is-F ∙ rw is-f (chosen (eqb a 1))) (schemeOf scheme) (gateWire n k) (drop at s) in
+          is-d ∙ rw (is-x, opened, is-B);
       is-next = rw h (omega arith);
       calls-made = free-calls scheme (kindOf (g .code)) h _ _ _;
     };
   }
+    where
+      chosen : (b : Bool) → take 16 (drop (16 * (cond b (g .a) (g .b) .0 - 1)) d) ≡ cond b (take 16 (drop (16 * (g .a .0 - 1)) d)) B
+      chosen true = refl
+      chosen false = sym is-B
 
-  pub charged-done : (scheme : ℕ) (s : List ℕ) (at : ℕ) → charge (kindOf (g .code)) ≡ 1 → (r : OpenedGate) → d′ ≡ put d (16 * (n + k)) (r .token .bytes)
+  pub charged-done : (A : Block) → A ≡ take 16 (drop (16 * (g .a .0 - 1)) d) → (scheme : ℕ) (s : List ℕ) (at : ℕ) → charge (kindOf (g .code)) ≡ 1 → (r : OpenedGate) → d′ ≡ put d (16 * (n + k)) (r .token .bytes)
       → OpenedIs (schemeOf scheme .opened (n + k + 1) (cut (schemeOf scheme .stored) (drop 4 (drop at s))) A B) (evaluateAsks scheme (n + k + 1) A B) r
       → TokenIs scheme n k g s at d (at + recordLength (schemeOf scheme)) (r .calls) d′
   unfolding tokenAt
-  charged-done scheme s at h r is-d is-r = record {
+  charged-done A is-A scheme s at h r is-d is-r = record {
     token-left = is-d ∙ rw (is-r .is-token ∙ sym (charged-opens (schemeOf scheme) (kindOf (g .code)) h (gateWire n k) (drop at s) A B), is-A, is-B);
     is-next = rw h (omega arith);
     calls-made = is-r .is-calls ∙ sym (charged-calls scheme (kindOf (g .code)) h (gateWire n k) A B) ∙ rw (is-A, is-B);
   }
 
-pub ruleset token-cases = (token-own, token-low-b, token-load-a, token-load-b, free-done, charged-done)
+pub ruleset token-cases = (token-own, token-low-b, token-load-a, token-load-b, token-low-first, token-load-first, both-low, free-done, charged-done)
 
 pub charged-room : (scheme code at : ℕ) (s : List ℕ) → GateRoom scheme code at s → charge (kindOf code) ≡ 1 → RecordRoom scheme at s
 charged-room scheme code at s r h = let l = rw h at (r .room) in record { known = r .known; room = omega arith }
@@ -153,6 +199,9 @@ module _ (scheme : ℕ) (c : List ℕ) (n k : ℕ) (s : List ℕ) (at calls : �
   pub step-operands : (g : Gate) → g ≡ gateAt c k → Operands n k g d
   step-operands g is-g = step-token g is-g .operands
 
+  pub step-known : (g : Gate) → g ≡ gateAt c k → isRefused (kindOf (g .code)) ≡ false
+  step-known g is-g = step-operands g is-g .known
+
   pub step-room : (g : Gate) → g ≡ gateAt c k → charge (kindOf (g .code)) ≡ 1 → RecordRoom scheme at s
   step-room g is-g h = charged-room scheme (g .code) at s (step-token g is-g .record-room) h
 
@@ -179,7 +228,7 @@ step-none k x e h = sym e ∙ h
 
 pub ruleset charge-cases = (step-none, step-one)
 
-pub ruleset step-cases = (step-record, step-small, step-operands, step-room, step-free, step-charged, step-calls, charge-cases)
+pub ruleset step-cases = (step-record, step-small, step-operands, step-known, step-room, step-free, step-charged, step-calls, charge-cases)
 
 -- ---- write_tokens
 

@@ -1,6 +1,8 @@
 // The walk over the gates (01, Operations, evaluate): the tokens of all wires, in the buffer that they are read from.
 // Whatever enciphers is lent the T-tables and the schedule w of π's fixed key.
 ghost use mathlib.Core.Path.{_≡_};
+ghost use mathlib.Core.Bool.{cond};
+ghost use lib.Dec.{eqb};
 ghost use Prim.Native.Nat.{_+_};
 ghost use Rattle.aes.specs.Lent.{Lent};
 ghost use Rattle.model.specs.Circuit.{gateAt, kindOf, charge};
@@ -13,8 +15,9 @@ use aes::t_tables;
 use block::load;
 use block::store;
 use buffer::copy_front;
-use circuit::code::code_charge;
+use circuit::code::Takes;
 use circuit::code::code_takes;
+use circuit::code::used_charge;
 use circuit::gates::gate_at;
 use material::record_length;
 use material::records::Cursor;
@@ -22,6 +25,13 @@ use model::Gate;
 use model::Wire;
 use scheme::free_token;
 use scheme::open_charged;
+
+// The operand that a free gate takes, or the first of both. Codes come in any order, and the compiler makes no branch of this choice.
+fn first_taken(g: Gate, takes: Takes) -> Wire
+    ensures { λ r. ⌜ r ≡ cond (eqb (takes .a .0) 1) (g .a) (g .b) ⌝ }
+{
+    if takes.a.0 == 1 { g.a } else { g.b }
+}
 
 // Gate k, from 0, of a circuit of n inputs is g, and is free: its token, which needs no material, is written after those of the wires
 // before it, from the operands that the gate takes. π is not called.
@@ -31,10 +41,11 @@ pub fn write_free(n: usize, k: usize, g: Gate, wires: &mut [u8])
     ensures { λ _. ⌜ FreeTokenIs n k g (now (wires .entry)) (now (wires .exit)) ⌝ }
 {
     let place = 16 * (n + k);
-    let a = load(wires, 16 * (g.a.0 as usize - 1));
-    let b = load(wires, 16 * (g.b.0 as usize - 1));
     let takes = code_takes(g.code);
-    store(wires, place, free_token(takes.a, takes.b, a, b));
+    let first = first_taken(g, takes);
+    let x = load(wires, 16 * (first.0 as usize - 1));
+    let b = load(wires, 16 * (g.b.0 as usize - 1));
+    store(wires, place, free_token(x, takes.both, b));
 }
 
 // The same of a charged gate, whose row record stands here. Answers the calls of π made.
@@ -87,7 +98,7 @@ fn write_token_at(
     ensures { λ r. ⌜ OpenedTo scheme n k (gateAt (now (circuit .entry)) k) (now (material .entry)) (s .here .at) (s .calls) (now (wires .entry)) (r .here .at) (r .calls) (now (wires .exit)) ⌝ }
 {
     let g = gate_at(circuit, k);
-    if code_charge(g.code) == 0 {
+    if used_charge(g.code) == 0 {
         write_free(n, k, g, wires);
         return s;
     }

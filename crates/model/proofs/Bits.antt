@@ -13,6 +13,10 @@ bit-of zero h = b0
 bit-of (suc zero) h = b1
 bit-of (suc (suc x)) h = absurd (omega arith)
 
+pub bit-small : {x : ℕ} → Bit x → x ≤ 1
+bit-small b0 = omega arith
+bit-small b1 = omega arith
+
 pub bit-mod : (x : ℕ) → Bit (x % 2)
 bit-mod x = bit-of (x % 2) (omega arith)
 

@@ -31,4 +31,10 @@ examples = record {
   too-many-gates = refl;
   too-few-inputs = refl;
   too-many-outputs = refl;
+  negated-check = refl;
+  negated-plain = refl;
+  passed-plain = refl;
+  unused-operand = refl;
+  fifteen = refl;
+  sixteen = refl;
 }

@@ -35,3 +35,4 @@ pub mod Chain
 pub mod OwnMaterial
 pub mod Records
 pub mod Demand3
+pub mod Kept

@@ -48,6 +48,10 @@ module _ {A : Type 0} where
   pub entry : (d : A) (n : ℕ) (f : ℕ → A) (k : ℕ) → k < n → getD (tabulate n f) k d ≡ f k
   entry d n f k h = from-entry d 0 n f k h ∙ ap f (zero-add k)
 
+  -- functions that have the same table of sixteen entries agree on those
+  pub agree : (d : A) (f g : ℕ → A) → tabulate 16 f ≡ tabulate 16 g → (k : ℕ) → k ≤ 15 → f k ≡ g k
+  agree d f g e k h = sym (entry d 16 f k (omega arith)) ∙ ap (λ (xs : List A). getD xs k d) e ∙ entry d 16 g k (omega arith)
+
   from-take : (i k n : ℕ) (f : ℕ → A) → k ≤ n → take k (from i n f) ≡ from i k f
   from-take i zero n f h = refl
   from-take i (suc k) zero f h = absurd (not-suc-le-zero h)

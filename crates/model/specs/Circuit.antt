@@ -26,14 +26,14 @@ pub data Kind : Type 0 where
   free : (p q c : ℕ) → Kind
   refused : Kind
 
--- "Codes 1, 2, 4, 7, 8, 11, 13, 14 are charged gates; 6 (XOR) and 9 (XNOR) are free; every other code is refused."
--- A line for each group of four, from code 0.
+-- "Codes 1, 2, 4, 7, 8, 11, 13, 14 are charged gates; 6 (XOR) and 9 (XNOR) are free"; and 02, job 2: "Codes 3, 5, 10 and 12 become free
+-- gates", "Refusal 7 is left for 0, 15 and codes above 15." A line for each group of four, from code 0.
 unfoldable pub kinds : List Kind
 kinds =
-    refused ∷ charged 0 0 1 ∷ charged 0 1 1 ∷ refused
-    ∷ charged 1 0 1 ∷ refused ∷ free 1 1 0 ∷ charged 1 1 0
-    ∷ charged 1 1 1 ∷ free 1 1 1 ∷ refused ∷ charged 1 0 0
-    ∷ refused ∷ charged 0 1 0 ∷ charged 0 0 0 ∷ refused ∷ []
+    refused ∷ charged 0 0 1 ∷ charged 0 1 1 ∷ free 1 0 1
+    ∷ charged 1 0 1 ∷ free 0 1 1 ∷ free 1 1 0 ∷ charged 1 1 0
+    ∷ charged 1 1 1 ∷ free 1 1 1 ∷ free 0 1 0 ∷ charged 1 0 0
+    ∷ free 1 0 0 ∷ charged 0 1 0 ∷ charged 0 0 0 ∷ refused ∷ []
 
 unfoldable pub kindOf : ℕ → Kind
 kindOf code = getD kinds code refused

@@ -1,4 +1,5 @@
--- Document 01, "Table of examples": those marked P, and the limits. The theorem is `examples` of proofs/Examples.antt.
+-- Document 01, "Table of examples": those marked P, and the limits; and of document 02, job 2, a gate of one operand. The theorem is `examples` of
+-- proofs/Examples.antt.
 use Prim.Native.Nat.{ℕ}
 use mathlib.Core.Path.{_≡_}
 use mathlib.Core.Bool.{true, false}
@@ -50,3 +51,10 @@ pub record Examples : Type 0 where
   pub too-many-gates : sizesHold 4096 1 61440 ≡ false
   pub too-few-inputs : sizesHold 1 1 1 ≡ false
   pub too-many-outputs : sizesHold 2 2 1 ≡ false
+  -- 02, job 2: P11's circuit with a gate that uses one operand, and what stays refused
+  pub negated-check : checkAnswer (oneGate 0x01 0x02 0x03) ≡ yes (record { n = 2; m = 1; q = 1; p = 0 })
+  pub negated-plain : plainValues (circuitOf (oneGate 0x01 0x02 0x03)) (0 ∷ 1 ∷ []) ≡ 0 ∷ 1 ∷ 1 ∷ []
+  pub passed-plain : plainValues (circuitOf (oneGate 0x01 0x02 0x0C)) (0 ∷ 1 ∷ []) ≡ 0 ∷ 1 ∷ 0 ∷ []
+  pub unused-operand : checkAnswer (oneGate 0x01 0x03 0x0C) ≡ no (refused 6 3)
+  pub fifteen : checkAnswer (oneGate 0x01 0x02 0x0F) ≡ no (refused 7 3)
+  pub sixteen : checkAnswer (oneGate 0x01 0x02 0x10) ≡ no (refused 7 3)

@@ -1,4 +1,5 @@
--- What is meant: document 01, a file for each of its sections, in its order. Definitions only: laws are in proofs/.
+-- What is meant: document 01, a file for each of its sections, in its order, with the jobs of document 02 that are done; Kept says what those leave
+-- as it was. Definitions only: laws are in proofs/.
 pub mod Bytes
 pub mod Decimal
 pub mod Circuit
@@ -17,3 +18,4 @@ pub mod Operations
 pub mod Program
 pub mod Demand3
 pub mod Examples
+pub mod Kept

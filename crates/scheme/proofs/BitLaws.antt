@@ -8,7 +8,7 @@ use Rattle.model.specs.Circuit.{charged, kindOf, value}
 use Rattle.model.specs.Aes.{Block, block, times}
 use Rattle.model.specs.Tokens.{colour, decoded}
 use Rattle.model.specs.Gax.{carried}
-use Rattle.model.proofs.Bits.{Bit, b0, b1}
+use Rattle.model.proofs.Bits.{bit-small}
 use Rattle.model.proofs.Tokens.{colour-bit}
 use Rattle.model.proofs.Codes.{value-bit, charged-own-pair}
 use Rattle.block.proofs.Words.{halves}
@@ -20,14 +20,10 @@ masked zero x y h hx hy = ap₂ halves (and-zero-r x) (and-zero-r y)
 masked (suc zero) x y h hx hy = ap₂ halves (and-mask x 64 ∙ omega arith) (and-mask y 64 ∙ omega arith)
 masked (suc (suc bit)) x y h hx hy = absurd (omega arith)
 
-low : {x : ℕ} → Bit x → x ≤ 1
-low b0 = omega arith
-low b1 = omega arith
-
 -- ---- the colour d of a token x
 module _ (x : Block) (d : ℕ) (is-d : d ≡ colour x) where
   pub colour-low : d ≤ 1
-  colour-low = rw is-d (low (colour-bit x))
+  colour-low = rw is-d (bit-small (colour-bit x))
 
   -- and the truth value that the colour c carries on a wire of zero token x
   pub is-carried : (c v : ℕ) → v ≡ decoded c d → v ≡ carried x c
@@ -40,15 +36,15 @@ row-within x y c d p q = omega (arith, colour-low x c p, colour-low y d q)
 
 -- a gate's value
 pub value-low : (code u v x : ℕ) → x ≡ value code u v → x ≤ 1
-value-low code u v x e = rw e (low (value-bit code u v))
+value-low code u v x e = rw e (bit-small (value-bit code u v))
 
 -- the pair of a charged code, and the pair's own value
 module _ (code u v x : ℕ) (e : kindOf code ≡ charged u v x) where
   pub u-low : u ≤ 1
-  u-low = low (charged-own-pair code u v x e .bit-u)
+  u-low = bit-small (charged-own-pair code u v x e .bit-u)
 
   pub v-low : v ≤ 1
-  v-low = low (charged-own-pair code u v x e .bit-v)
+  v-low = bit-small (charged-own-pair code u v x e .bit-v)
 
   pub own-low : x ≤ 1
-  own-low = low (charged-own-pair code u v x e .bit-x)
+  own-low = bit-small (charged-own-pair code u v x e .bit-x)

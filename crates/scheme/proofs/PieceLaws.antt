@@ -3,7 +3,7 @@ use Prim.Native.Nat.{ℕ, _+_, _*_, _-_}
 use mathlib.Core.Path.{_≡_, sym, ap}
 use Rattle.model.specs.Aes.{Block, _⊕_, times, block, π, double, quadruple}
 use Rattle.model.specs.Circuit.{value}
-use Rattle.model.specs.Tokens.{colour, freeZero, freeToken}
+use Rattle.model.specs.Tokens.{colour, freeZero}
 use Rattle.model.specs.Scheme.{Site}
 use Rattle.model.specs.Gax.{keyBlock, carried, tokenOf, valueAt, sealed, rowAt, dualKey}
 use Rattle.model.specs.Gaxr.{reducedZero}
@@ -103,12 +103,8 @@ pub joined-is : (g : ℕ) (G E A B ha hb x : Block) → x ≡ ha ⊕ times (colo
 unfolding joined
 joined-is g G E A B ha hb x is-x is-ha is-hb = rw (is-x, is-ha, is-hb)
 
--- free gates, from their operands' parts
+-- a free gate, from its operands' parts
 pub free-zero-is : (p q c : ℕ) (r xa xb x u v w y : Block) → x ≡ u ⊕ v → u ≡ times p xa → v ≡ w ⊕ y → w ≡ times q xb → y ≡ times c r
     → x ≡ freeZero p q c r xa xb
 unfolding freeZero
 free-zero-is p q c r xa xb x u v w y is-x is-u is-v is-w is-y = rw (is-x, is-u, is-v, is-w, is-y)
-
-pub free-token-is : (p q : ℕ) (a b x u v : Block) → x ≡ u ⊕ v → u ≡ times p a → v ≡ times q b → x ≡ freeToken p q a b
-unfolding freeToken
-free-token-is p q a b x u v is-x is-u is-v = rw (is-x, is-u, is-v)

@@ -6,5 +6,6 @@ use Rattle.circuit.proofs.code.code_kind.Tie as tie
 pub code-kind-spec : {M : Type 1} → statement M
 code-kind-spec =
     tie.close
-    (tie.spec (λ c κs. search needs) (λ c κs. search kind-cases) (λ c. search kind-cases)
-    (λ c κs. search needs) (λ c. search kind-cases) (λ c κs. search kind-cases) (λ c. search kind-cases))
+    (tie.spec (λ c κs. search needs) (λ c. search kind-cases)
+    (λ c κs. search (kind-cases, needs)) (λ c κs. search (kind-cases, needs)) (λ c κs. search (kind-cases, needs)) (λ c κs. search (kind-cases, needs))
+    (λ c. search kind-cases) (λ c. search kind-cases))

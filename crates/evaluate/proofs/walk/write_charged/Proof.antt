@@ -14,7 +14,7 @@ returns c =
     let opened = c .before .before .before .before in
     let load2 = opened .before in
     let load = load2 .before .before .before in
-    charged-done _ _ _ _ _ _ (load .load .ensures) (load2 .load2 .ensures) _ _ _ _ (load .before .before .before .before .before .pre .1 .1 .1) _
+    charged-done _ _ _ _ _ (load2 .load2 .ensures) _ _ (load .load .ensures) _ _ _ (load .before .before .before .before .before .pre .1 .1 .1) _
     (c .before .before .store .ensures) (opened .open-charged .ensures)
 
 pub write-charged-spec : {M : Type 1} → statement M

@@ -1,0 +1,335 @@
+-- What document 02 says of what was there before. Assumes nothing.
+use Prim.Native.Nat.{ℕ, zero, suc, _+_, _≤_, _<_}
+use native.Mathlib.Decide.{decLt}
+use native.Mathlib.Omega.{arith}
+use mathlib.Core.Path.{_≡_, refl, sym, ap, _∙_}
+use mathlib.Core.Bool.{Bool, true, false, cond, _||_, false≢true}
+use mathlib.Core.List.{List, [], _∷_, _++_}
+use borrow.Author.Tests.{le-leb}
+use lib.Dec.{T, eqb, leb, eqb→eq}
+use lib.ListN.{length, getD, drop, List·getD-eq-default}
+use Rattle.model.specs.declared.Gate.{Gate}
+use Rattle.model.specs.Bytes.{from, tabulate}
+use Rattle.model.specs.Circuit.{Circuit, Kind, charged, free, refused, kinds, kindOf, value, charges, circuitOf, inputs, gates, gateAt, gateWire, wire, wires, gateValue, plainValues}
+use Rattle.model.specs.Aes.{Block, _⊕_, block, times}
+use Rattle.model.specs.Tokens.{Garbling, offset, inputZeros, freeZero, freeToken}
+use Rattle.model.specs.Scheme.{Site, Scheme, recordLength}
+use Rattle.model.specs.Gax.{dualKey, gax}
+use Rattle.model.specs.Gaxr.{gaxr}
+use Rattle.model.specs.HalfGates.{hash, halfA, halfB, rowG, rowE, halfZero, half}
+use Rattle.model.specs.Garbling.{schemeOf, siteOf, zeroAt, zeroStep, zeroTokens}
+use Rattle.model.specs.Material.{recordOf, records, lastRecord, material}
+use Rattle.model.specs.Evaluation.{openAt, openStep, past, run, evaluate}
+use Rattle.model.specs.Refusals.{fine, isRefused, _then_, headVerdict, gateVerdict, recordVerdict, circuitVerdict}
+use Rattle.model.specs.Kept.{LeftRefused, ZeroPassedOn, TokenPassedOn, PassedOn, kinds01, kind01, kindValue, chargesBy, gateValueBy, gateVerdictBy, recordVerdictBy, circuitVerdictBy, halfABy, halfBBy, rowGBy, rowEBy, halfBy, schemeBy, zeroAtBy, zeroStepBy, zeroTokensBy, recordOfBy, recordsBy, lastRecordBy, materialBy, openStepBy, runBy, evaluateBy, SameBytes}
+use Rattle.model.proofs.Bits.{Bit, b0, b1, bit-of, bit-small}
+use Rattle.model.proofs.Codes.{value-bit}
+use Rattle.model.proofs.Lists.{agree, tabulate-length}
+use Rattle.model.proofs.Blocks.{Blocks, blocks-wide, cut-blocks}
+use Rattle.model.proofs.Schemes.{scheme-sound}
+use Rattle.model.proofs.Lengths.{input-zeros-blocks, zeros-blocks, run-blocks}
+use Rattle.model.proofs.Accepted.{GateHolds, accepted-gate}
+use Rattle.model.proofs.Table.{every, at}
+use Rattle.model.proofs.Xor.{⊕-assoc, ⊕-zero}
+use Rattle.model.proofs.XorRules.{zero-⊕, ⊕-zero-right, times-0, times-1}
+use Rattle.model.proofs.Verdicts.{then-fine, refuse-fine, first-each, first-all}
+
+-- ---- left refused
+
+pub left-refused : LeftRefused
+left-refused code = go (decLt 15 code)
+  where
+    listed : code ≤ 15 → isRefused (kindOf code) ≡ (eqb code 0 || leb 15 code)
+    listed h = agree true (λ k. isRefused (kindOf k)) (λ k. eqb k 0 || leb 15 k) (unfold kindOf kinds in refl) code h
+
+    above : 15 < code → isRefused (kindOf code) ≡ true
+    above h = unfold kindOf kinds in (ap isRefused (List·getD-eq-default kinds refused {n = code} (omega arith)))
+
+    go : Dec (15 < code) → isRefused (kindOf code) ≡ (eqb code 0 || leb 15 code)
+    go (Dec.yes h) = above h ∙ sym (ap (eqb code 0 ||_) (le-leb 15 code (omega arith)) ∙ either (eqb code 0))
+      where
+        either : (b : Bool) → (b || true) ≡ true
+        either true = refl
+        either false = refl
+    go (Dec.no h) = listed (omega arith)
+
+-- ---- passed on
+
+-- a sum of one block is that block
+pass-a : (x y : Block) → length x ≡ 16 → freeToken 1 0 x y ≡ x
+unfolding freeToken
+pass-a x y wide = rw (times-1, times-0) (⊕-zero x wide)
+
+pass-b : (x y : Block) → length y ≡ 16 → freeToken 0 1 x y ≡ y
+unfolding freeToken
+pass-b x y wide = rw (times-1, times-0) (zero-⊕ y wide)
+
+-- a zero token is the same sum of zero tokens, and ⊕ R more where c is 1
+without-R : (p q : ℕ) (R x y : Block) → freeZero p q 0 R x y ≡ freeToken p q x y
+unfolding freeZero freeToken
+without-R p q R x y = rw times-0 (⊕-zero-right (times p x) (times q y))
+
+with-R : (p q : ℕ) (R x y : Block) → freeZero p q 1 R x y ≡ freeToken p q x y ⊕ R
+unfolding freeZero freeToken
+with-R p q R x y = rw times-1 (sym (⊕-assoc (times p x) (times q y) R))
+
+module _ (xs : List Block) (g : Gate) (wide-a : length (wire (block 0) xs (g .a .0)) ≡ 16) (wide-b : length (wire (block 0) xs (g .b .0)) ≡ 16) where
+  zero-passed-on : (γ : Garbling) → ZeroPassedOn γ xs g
+  unfolding zeroStep zeroAt siteOf kindOf kinds
+  zero-passed-on γ = record {
+    code-12 = λ e. rw e (without-R 1 0 _ _ _ ∙ pass-a _ _ wide-a);
+    code-10 = λ e. rw e (without-R 0 1 _ _ _ ∙ pass-b _ _ wide-b);
+    code-3 = λ e. rw e (with-R 1 0 _ _ _ ∙ ap (_⊕ offset γ) (pass-a _ _ wide-a));
+    code-5 = λ e. rw e (with-R 0 1 _ _ _ ∙ ap (_⊕ offset γ) (pass-b _ _ wide-b));
+  }
+
+  token-passed-on : (S : Scheme) (bs : List ℕ) → TokenPassedOn S bs xs g
+  unfolding openStep openAt kindOf kinds
+  token-passed-on S bs = record {
+    code-12 = λ e. rw e (pass-a _ _ wide-a);
+    code-10 = λ e. rw e (pass-b _ _ wide-b);
+    code-3 = λ e. rw e (pass-a _ _ wide-a);
+    code-5 = λ e. rw e (pass-b _ _ wide-b);
+  }
+
+-- at a gate of an accepted circuit the operands are wires before it
+module _ (c : List ℕ) (e : circuitVerdict c ≡ fine) (k : ℕ) (h : k < gates c) {m : ℕ} {xs : List Block} (r : Blocks m xs) (is-m : m ≡ inputs c + k) where
+  held : GateHolds (gateWire (inputs c) k) (gateAt c k)
+  held = accepted-gate c k e h
+
+  wide-first : length (wire (block 0) xs (gateAt c k .a .0)) ≡ 16
+  wide-first = let g = held in blocks-wide r _ (omega (arith, g .a-low, g .order, g .b-high))
+
+  wide-second : length (wire (block 0) xs (gateAt c k .b .0)) ≡ 16
+  wide-second = let g = held in blocks-wide r _ (omega (arith, g .a-low, g .order, g .b-high))
+
+pub passed-on : (c : List ℕ) → circuitVerdict c ≡ fine → PassedOn c
+passed-on c e = record {
+  zeros = λ γ is-c k h.
+      let n : γ .circuit .n ≡ inputs c = unfold circuitOf in (ap (λ (x : Circuit). x .n) is-c) in
+      let r = zeros-blocks γ (tabulate k (gateAt c)) (input-zeros-blocks γ) in
+      let m : γ .circuit .n + length (tabulate k (gateAt c)) ≡ inputs c + k = omega (arith, tabulate-length k (gateAt c)) in
+      zero-passed-on _ _ (wide-first c e k h r m) (wide-second c e k h r m) γ;
+  tokens = λ ts s l k h bs.
+      let S = schemeOf (getD s 2 0) in
+      let r = run-blocks S (scheme-sound (getD s 2 0)) (tabulate k (gateAt c)) (drop 9 s) (cut-blocks (inputs c) ts (omega arith)) in
+      let m : inputs c + length (tabulate k (gateAt c)) ≡ inputs c + k = omega (arith, tabulate-length k (gateAt c)) in
+      token-passed-on _ _ (wide-first c e k h r m) (wide-second c e k h r m) S bs;
+}
+
+-- ---- same bytes
+
+-- where 01 has a kind for a code, the code has that kind
+agreed : ℕ → Kind
+agreed code = cond (isRefused (kind01 code)) refused (kindOf code)
+
+agreed-right : (code : ℕ) → code ≤ 15 → agreed code ≡ kind01 code
+unfolding agreed kind01 kinds01 kindOf kinds
+agreed-right code h = agree refused agreed kind01 refl code h
+
+past-01 : (code : ℕ) → 15 < code → kind01 code ≡ refused
+unfolding kind01 kinds01
+past-01 code h = List·getD-eq-default kinds01 refused {n = code} (omega arith)
+
+module _ (code : ℕ) (known : isRefused (kind01 code) ≡ false) where
+  in-table : code ≤ 15
+  in-table = go (decLt 15 code)
+    where
+      go : Dec (15 < code) → code ≤ 15
+      go (Dec.yes l) = absurd (false≢true (sym known ∙ ap isRefused (past-01 code l)))
+      go (Dec.no l) = omega arith
+
+  same-kind : kind01 code ≡ kindOf code
+  unfolding agreed
+  same-kind = sym (agreed-right code in-table) ∙ rw known
+
+-- the value that 01's kind of a code says is the code's own
+says : ℕ → ℕ → ℕ → Bool
+says u v code = isRefused (kind01 code) || eqb (kindValue (kind01 code) u v) (value code u v)
+
+abbrev AllSay : ℕ → ℕ → Type 0
+AllSay u v = T (every (λ code x. says u v code) 0 (tabulate 16 (λ i. i)))
+
+all-say : AllSay 0 0 × AllSay 0 1 × AllSay 1 0 × AllSay 1 1
+unfolding says kind01 kinds01 kindValue value
+all-say = (tt, tt, tt, tt)
+
+module _ (code : ℕ) (known : isRefused (kind01 code) ≡ false) where
+  said : (u v : ℕ) → AllSay u v → kindValue (kind01 code) u v ≡ value code u v
+  unfolding says
+  said u v t = eqb→eq _ _ (rw known at (at (λ k x. says u v k) (tabulate 16 (λ i. i)) t code (omega (arith, in-table code known))))
+
+  kind-value : {u v : ℕ} → Bit u → Bit v → kindValue (kind01 code) u v ≡ value code u v
+  kind-value b0 b0 = said 0 0 (all-say .0)
+  kind-value b0 b1 = said 0 1 (all-say .1)
+  kind-value b1 b0 = said 1 0 (all-say .2)
+  kind-value b1 b1 = said 1 1 (all-say .3)
+
+-- every gate's code has a kind in 01
+abbrev Known : List Gate → Type 0
+Known [] = Unit
+Known (g ∷ gs) = (isRefused (kind01 (g .code)) ≡ false) × Known gs
+
+charges-same : (gs : List Gate) → Known gs → charges gs ≡ chargesBy kind01 gs
+unfolding charges chargesBy
+charges-same [] h = refl
+charges-same (g ∷ gs) h = rw (same-kind (g .code) (h .0), charges-same gs (h .1))
+
+-- ---- values
+
+abbrev AllBits : List ℕ → Type 0
+AllBits vs = (i : ℕ) → getD vs i 0 ≤ 1
+
+bits-snoc : (vs : List ℕ) (x : ℕ) → AllBits vs → x ≤ 1 → AllBits (vs ++ (x ∷ []))
+bits-snoc [] x h l zero = l
+bits-snoc [] x h l (suc i) = omega arith
+bits-snoc (v ∷ vs) x h l zero = h 0
+bits-snoc (v ∷ vs) x h l (suc i) = bits-snoc vs x (λ j. h (suc j)) l i
+
+values-same : (gs : List Gate) (vs : List ℕ) → Known gs → AllBits vs → wires gateValue gs vs ≡ wires (gateValueBy kind01) gs vs
+unfolding wires gateValue gateValueBy
+values-same [] vs h b = refl
+values-same (g ∷ gs) vs h b =
+    let u = wire 0 vs (g .a .0) in
+    let v = wire 0 vs (g .b .0) in
+    rw (kind-value (g .code) (h .0) (bit-of u (b _)) (bit-of v (b _)))
+    (values-same gs (vs ++ (value (g .code) u v ∷ [])) (h .1) (bits-snoc vs _ b (bit-small (value-bit (g .code) u v))))
+
+-- ---- zero tokens and records
+
+-- what is the same in scheme 3 is the same in all
+by-scheme : {A : Type 0} (f : Scheme → A) → f (halfBy kind01) ≡ f (half hash) → (k : ℕ) → f (schemeBy kind01 k) ≡ f (schemeOf k)
+unfolding schemeBy schemeOf
+by-scheme f e k = go (eqb k 1) (eqb k 2)
+  where
+    go : (x y : Bool) → f (cond x (gax dualKey) (cond y (gaxr dualKey) (halfBy kind01))) ≡ f (cond x (gax dualKey) (cond y (gaxr dualKey) (half hash)))
+    go true y = refl
+    go false true = refl
+    go false false = e
+
+module _ (s : Site) (same : kind01 (s .code) ≡ kindOf (s .code)) where
+  A-same : halfABy kind01 s ≡ halfA s
+  unfolding halfABy halfA
+  A-same = rw same
+
+  B-same : halfBBy kind01 s ≡ halfB s
+  unfolding halfBBy halfB
+  B-same = rw same
+
+  G-same : rowGBy kind01 s ≡ rowG hash s
+  unfolding rowGBy rowG
+  G-same = rw (A-same, B-same)
+
+  E-same : rowEBy kind01 s ≡ rowE hash s
+  unfolding rowEBy rowE
+  E-same = rw (A-same, B-same)
+
+  half-zero-same : halfBy kind01 .zeroToken s ≡ half hash .zeroToken s
+  unfolding halfBy half halfZero
+  half-zero-same = rw (A-same, B-same, G-same, E-same, same)
+
+  half-rows-same : halfBy kind01 .rows s ≡ half hash .rows s
+  unfolding halfBy half
+  half-rows-same = rw (G-same, E-same)
+
+  zero-at-same : (γ : Garbling) (k : Kind) → zeroAtBy kind01 γ k s ≡ zeroAt γ k s
+  unfolding zeroAtBy zeroAt
+  zero-at-same γ (charged u v x) = by-scheme (λ S. S .zeroToken s) half-zero-same (γ .scheme)
+  zero-at-same γ (free p q c) = refl
+  zero-at-same γ refused = refl
+
+  record-of-same : (γ : Garbling) (k : Kind) → recordOfBy kind01 γ k s ≡ recordOf γ k s
+  unfolding recordOfBy recordOf
+  record-of-same γ (charged u v x) = rw (by-scheme (λ S. S .rows s) half-rows-same (γ .scheme))
+  record-of-same γ (free p q c) = refl
+  record-of-same γ refused = refl
+
+module _ (γ : Garbling) where
+  module _ (xs : List Block) (g : Gate) (known : isRefused (kind01 (g .code)) ≡ false) where
+    zero-step-same : zeroStepBy kind01 γ xs g ≡ zeroStep γ xs g
+    unfolding zeroStepBy zeroStep siteOf
+    zero-step-same = zero-at-same (siteOf γ xs g) (same-kind (g .code) known) γ _ ∙ rw (same-kind (g .code) known)
+
+    record-same : recordOfBy kind01 γ (kind01 (g .code)) (siteOf γ xs g) ≡ recordOf γ (kindOf (g .code)) (siteOf γ xs g)
+    unfolding siteOf
+    record-same = record-of-same (siteOf γ xs g) (same-kind (g .code) known) γ _ ∙ rw (same-kind (g .code) known)
+
+  zeros-same : (gs : List Gate) (xs : List Block) → Known gs → wires (zeroStep γ) gs xs ≡ wires (zeroStepBy kind01 γ) gs xs
+  unfolding wires
+  zeros-same [] xs h = refl
+  zeros-same (g ∷ gs) xs h = rw (zero-step-same xs g (h .0)) (zeros-same gs (xs ++ (zeroStep γ xs g ∷ [])) (h .1))
+
+  records-same : (gs : List Gate) (xs : List Block) → Known gs → records γ gs xs ≡ recordsBy kind01 γ gs xs
+  unfolding records recordsBy
+  records-same [] xs h = refl
+  records-same (g ∷ gs) xs h =
+      rw (record-same xs g (h .0), zero-step-same xs g (h .0), records-same gs (xs ++ (zeroStep γ xs g ∷ [])) (h .1))
+
+  module _ (h : Known (γ .circuit .gates)) where
+    zero-tokens-same : zeroTokens γ ≡ zeroTokensBy kind01 γ
+    unfolding zeroTokens zeroTokensBy
+    zero-tokens-same = zeros-same (γ .circuit .gates) (inputZeros γ) h
+
+    material-same : material γ ≡ materialBy kind01 γ
+    unfolding material materialBy lastRecord lastRecordBy
+    material-same = rw (records-same (γ .circuit .gates) (inputZeros γ) h, zero-tokens-same)
+
+-- ---- tokens evaluated
+
+run-same : (S : Scheme) (gs : List Gate) (bs : List ℕ) (ts : List Block) → Known gs → run S gs bs ts ≡ runBy kind01 S gs bs ts
+unfolding run runBy openStep openStepBy
+run-same S [] bs ts h = refl
+run-same S (g ∷ gs) bs ts h = rw (same-kind (g .code) (h .0)) (run-same S gs _ _ (h .1))
+
+-- evaluation in scheme 3 does not ask for α, β and γ
+open-half : (k : Kind) (g : ℕ) (bs : List ℕ) (A B : Block) → openAt (halfBy kind01) k g bs A B ≡ openAt (half hash) k g bs A B
+unfolding openAt halfBy half
+open-half (charged u v x) g bs A B = refl
+open-half (free p q c) g bs A B = refl
+open-half refused g bs A B = refl
+
+past-half : (k : Kind) (bs : List ℕ) → past (halfBy kind01) k bs ≡ past (half hash) k bs
+unfolding past recordLength halfBy half
+past-half (charged u v x) bs = refl
+past-half (free p q c) bs = refl
+past-half refused bs = refl
+
+run-half : (gs : List Gate) (bs : List ℕ) (ts : List Block) → runBy kind01 (halfBy kind01) gs bs ts ≡ runBy kind01 (half hash) gs bs ts
+unfolding runBy openStepBy
+run-half [] bs ts = refl
+run-half (g ∷ gs) bs ts = rw (open-half, past-half) (run-half gs _ _)
+
+-- ---- a circuit that 01 accepts
+
+module _ (c : List ℕ) (e : circuitVerdictBy kind01 c ≡ fine) where
+  gate-fine : (k : ℕ) → k < gates c → recordVerdictBy kind01 c (inputs c) k ≡ fine
+  unfolding circuitVerdictBy
+  gate-fine k h = first-each (recordVerdictBy kind01 c (inputs c)) (gates c) k (then-fine _ _ e .1) h
+
+  gate-known : (k : ℕ) → k < gates c → isRefused (kind01 (gateAt c k .code)) ≡ false
+  unfolding recordVerdictBy gateVerdictBy
+  gate-known k h = refuse-fine _ _ _ (then-fine _ _ (then-fine _ _ (gate-fine k h) .1) .1)
+
+  gate-accepted : (k : ℕ) → k < gates c → recordVerdict c (inputs c) k ≡ fine
+  unfolding recordVerdictBy recordVerdict gateVerdictBy gateVerdict
+  gate-accepted k h = rw (← same-kind (gateAt c k .code) (gate-known k h)) (gate-fine k h)
+
+  known-from : (i k : ℕ) → i + k ≤ gates c → Known (from i k (gateAt c))
+  known-from i zero h = tt
+  known-from i (suc k) h = (gate-known i (omega arith), known-from (suc i) k (omega arith))
+
+  all-known : Known (circuitOf c .gates)
+  unfolding circuitOf
+  all-known = known-from 0 (gates c) (omega arith)
+
+  pub same-bytes : SameBytes c
+  unfolding circuitVerdictBy circuitVerdict plainValues evaluate evaluateBy _then_
+  same-bytes = record {
+    accepted = rw (then-fine (headVerdict c) _ e .0) (first-all (recordVerdict c (inputs c)) (gates c) gate-accepted);
+    as-many = charges-same (circuitOf c .gates) all-known;
+    values = λ vs b. values-same (circuitOf c .gates) vs all-known b;
+    zeros = λ γ is-c. zero-tokens-same γ (rw is-c all-known);
+    rows = λ γ is-c. material-same γ (rw is-c all-known);
+    tokens = λ ts s. run-same _ (circuitOf c .gates) (drop 9 s) ts all-known
+        ∙ sym (by-scheme (λ S. runBy kind01 S (circuitOf c .gates) (drop 9 s) ts) (run-half (circuitOf c .gates) (drop 9 s) ts) (getD s 2 0));
+  }

@@ -1,0 +1,169 @@
+-- What document 02 says of what was there before, a part for each job that says so. The theorems are in proofs/Kept.antt.
+use Prim.Native.Nat.{ℕ, _+_, _*_, _-_, _≤_, _<_}
+use mathlib.Core.Path.{_≡_}
+use mathlib.Core.Bool.{not, cond, _&&_, _||_}
+use mathlib.Core.List.{List, [], _∷_, _++_, map}
+use lib.Bits.{differ}
+use lib.Dec.{eqb, leb}
+use lib.ListN.{length, getD, drop}
+use Rattle.model.specs.declared.Gate.{Gate}
+use Rattle.model.specs.Bytes.{tabulate, two}
+use Rattle.model.specs.Circuit.{Circuit, Kind, charged, free, refused, circuitOf, kindOf, charge, charges, markAt, inputs, gates, recordAt, gateAt, operandsHold, gateWire, wire, wires, plainValues}
+use Rattle.model.specs.Aes.{Block, _⊕_, block, times}
+use Rattle.model.specs.Tokens.{Garbling, colour, offset, inputZeros, freeZero}
+use Rattle.model.specs.Scheme.{Site, Scheme}
+use Rattle.model.specs.Gax.{dualKey, gax}
+use Rattle.model.specs.Gaxr.{gaxr}
+use Rattle.model.specs.HalfGates.{hash, alpha, beta, gamma, generatorTweak, evaluatorTweak, joined}
+use Rattle.model.specs.Garbling.{own, schemeOf, siteOf, zeroStep, zeroTokens}
+use Rattle.model.specs.Material.{joinBlocks, header, material}
+use Rattle.model.specs.Evaluation.{cut, openAt, openStep, past, run, evaluate}
+use Rattle.model.specs.Refusals.{Verdict, fine, refuse, _then_, firstOf, isRefused, headVerdict, circuitVerdict}
+
+-- ==== Job 2, gates that use one operand
+
+-- ---- "Refusal 7 is left for 0, 15 and codes above 15."
+
+abbrev pub LeftRefused : Type 0
+LeftRefused = (code : ℕ) → isRefused (kindOf code) ≡ (eqb code 0 || leb 15 code)
+
+-- ---- "12 and 10 pass on the token of a and of b, 3 and 5 the same with the zero token ⊕ R"
+
+-- the zero token of a gate g that comes after the wires of zero tokens xs
+pub record ZeroPassedOn (γ : Garbling) (xs : List Block) (g : Gate) : Type 0 where
+  pub code-12 : g .code ≡ 12 → zeroStep γ xs g ≡ wire (block 0) xs (g .a .0)
+  pub code-10 : g .code ≡ 10 → zeroStep γ xs g ≡ wire (block 0) xs (g .b .0)
+  pub code-3 : g .code ≡ 3 → zeroStep γ xs g ≡ wire (block 0) xs (g .a .0) ⊕ offset γ
+  pub code-5 : g .code ≡ 5 → zeroStep γ xs g ≡ wire (block 0) xs (g .b .0) ⊕ offset γ
+
+-- its token, where the tokens ts are held on the wires before it: R is the garbler's alone; bs is what is left of the material
+pub record TokenPassedOn (S : Scheme) (bs : List ℕ) (ts : List Block) (g : Gate) : Type 0 where
+  pub code-12 : g .code ≡ 12 → openStep S bs ts g ≡ wire (block 0) ts (g .a .0)
+  pub code-10 : g .code ≡ 10 → openStep S bs ts g ≡ wire (block 0) ts (g .b .0)
+  pub code-3 : g .code ≡ 3 → openStep S bs ts g ≡ wire (block 0) ts (g .a .0)
+  pub code-5 : g .code ≡ 5 → openStep S bs ts g ≡ wire (block 0) ts (g .b .0)
+
+-- at gate k, from 0, of an accepted circuit c, for every garbling of it, and for any tokens ts of its inputs over any material s
+pub record PassedOn (c : List ℕ) : Type 0 where
+  pub zeros : (γ : Garbling) → γ .circuit ≡ circuitOf c → (k : ℕ) → k < gates c
+      → ZeroPassedOn γ (wires (zeroStep γ) (tabulate k (gateAt c)) (inputZeros γ)) (gateAt c k)
+  pub tokens : (ts s : List ℕ) → length ts ≡ 16 * inputs c → (k : ℕ) → k < gates c → (bs : List ℕ)
+      → TokenPassedOn (schemeOf (getD s 2 0)) bs (run (schemeOf (getD s 2 0)) (tabulate k (gateAt c)) (drop 9 s) (cut (inputs c) ts)) (gateAt c k)
+
+-- ---- "Circuits accepted before get the bytes they got"
+
+-- 01's own table, "Circuit": "Codes 1, 2, 4, 7, 8, 11, 13, 14 are charged gates; 6 (XOR) and 9 (XNOR) are free; every other code is refused."
+unfoldable pub kinds01 : List Kind
+kinds01 =
+    refused ∷ charged 0 0 1 ∷ charged 0 1 1 ∷ refused
+    ∷ charged 1 0 1 ∷ refused ∷ free 1 1 0 ∷ charged 1 1 0
+    ∷ charged 1 1 1 ∷ free 1 1 1 ∷ refused ∷ charged 1 0 0
+    ∷ refused ∷ charged 0 1 0 ∷ charged 0 0 0 ∷ refused ∷ []
+
+unfoldable pub kind01 : ℕ → Kind
+kind01 code = getD kinds01 code refused
+
+-- the value that a kind says a gate has
+unfoldable pub kindValue : Kind → ℕ → ℕ → ℕ
+kindValue (charged u v x) a b = cond (eqb a u && eqb b v) x (1 - x)
+kindValue (free p q c) a b = differ (differ (p * a) (q * b)) c
+kindValue refused a b = 0
+
+-- What a table K gives: the definitions that ask for a code's kind, each as it stands in the file named, with K in the place of kindOf.
+module _ (K : ℕ → Kind) where
+  -- Circuit: p, and the values
+  unfoldable pub chargesBy : List Gate → ℕ
+  chargesBy [] = 0
+  chargesBy (g ∷ gs) = charge (K (g .code)) + chargesBy gs
+
+  unfoldable pub gateValueBy : List ℕ → Gate → ℕ
+  gateValueBy vs g = kindValue (K (g .code)) (wire 0 vs (g .a .0)) (wire 0 vs (g .b .0))
+
+  -- Refusals: 1 to 7
+  unfoldable pub gateVerdictBy : ℕ → Gate → Verdict
+  gateVerdictBy own g =
+      refuse (not (operandsHold own g)) 6 own
+      then refuse (isRefused (K (g .code))) 7 own
+
+  unfoldable pub recordVerdictBy : List ℕ → ℕ → ℕ → Verdict
+  recordVerdictBy s n k =
+      refuse (not (markAt s (recordAt k) 0x43 0x47)) 5 (gateWire n k)
+      then gateVerdictBy (gateWire n k) (gateAt s k)
+
+  unfoldable pub circuitVerdictBy : List ℕ → Verdict
+  circuitVerdictBy s = headVerdict s then firstOf (recordVerdictBy s (inputs s)) (gates s)
+
+  -- HalfGates: α, β and γ
+  unfoldable pub halfABy : Site → Block
+  halfABy s = s .Xa ⊕ times (alpha (K (s .code))) (s .R)
+
+  unfoldable pub halfBBy : Site → Block
+  halfBBy s = s .Xb ⊕ times (beta (K (s .code))) (s .R)
+
+  unfoldable pub rowGBy : Site → Block
+  rowGBy s = hash (halfABy s) (generatorTweak (s .g)) ⊕ hash (halfABy s ⊕ s .R) (generatorTweak (s .g)) ⊕ times (colour (halfBBy s)) (s .R)
+
+  unfoldable pub rowEBy : Site → Block
+  rowEBy s = hash (halfBBy s) (evaluatorTweak (s .g)) ⊕ hash (halfBBy s ⊕ s .R) (evaluatorTweak (s .g)) ⊕ halfABy s
+
+  unfoldable pub halfBy : Scheme
+  halfBy = record {
+    stored = 2;
+    zeroToken = λ s. joined hash (s .g) (rowGBy s) (rowEBy s) (halfABy s) (halfBBy s) ⊕ times (gamma (K (s .code))) (s .R);
+    rows = λ s. rowGBy s ∷ rowEBy s ∷ [];
+    opened = λ g rows. joined hash g (getD rows 0 (block 0)) (getD rows 1 (block 0));
+  }
+
+  -- Garbling
+  unfoldable pub schemeBy : ℕ → Scheme
+  schemeBy k = cond (eqb k 1) (gax dualKey) (cond (eqb k 2) (gaxr dualKey) halfBy)
+
+  module _ (γ : Garbling) where
+    unfoldable pub zeroAtBy : Kind → Site → Block
+    zeroAtBy (charged u v x) s = schemeBy (γ .scheme) .zeroToken s
+    zeroAtBy (free p q c) s = freeZero p q c (s .R) (s .Xa) (s .Xb)
+    zeroAtBy refused s = block 0
+
+    unfoldable pub zeroStepBy : List Block → Gate → Block
+    zeroStepBy xs g = zeroAtBy (K (g .code)) (siteOf γ xs g)
+
+    unfoldable pub zeroTokensBy : List Block
+    zeroTokensBy = wires zeroStepBy (γ .circuit .gates) (inputZeros γ)
+
+    -- Material
+    unfoldable pub recordOfBy : Kind → Site → List ℕ
+    recordOfBy (charged u v x) s = 0x47 ∷ 0x54 ∷ two (s .g) ++ joinBlocks (schemeBy (γ .scheme) .rows s)
+    recordOfBy (free p q c) s = []
+    recordOfBy refused s = []
+
+    unfoldable pub recordsBy : List Gate → List Block → List ℕ
+    recordsBy [] xs = []
+    recordsBy (g ∷ gs) xs = recordOfBy (K (g .code)) (siteOf γ xs g) ++ recordsBy gs (xs ++ (zeroStepBy xs g ∷ []))
+
+    unfoldable pub lastRecordBy : List ℕ
+    lastRecordBy = 0x47 ∷ 0x44 ∷ map (λ w. colour (wire (block 0) zeroTokensBy w)) (γ .circuit .outputs)
+
+    unfoldable pub materialBy : List ℕ
+    materialBy = header γ ++ recordsBy (γ .circuit .gates) (inputZeros γ) ++ lastRecordBy
+
+  -- Evaluation
+  module _ (S : Scheme) where
+    unfoldable pub openStepBy : List ℕ → List Block → Gate → Block
+    openStepBy bs ts g = openAt S (K (g .code)) (own ts) bs (wire (block 0) ts (g .a .0)) (wire (block 0) ts (g .b .0))
+
+    unfoldable pub runBy : List Gate → List ℕ → List Block → List Block
+    runBy [] bs ts = ts
+    runBy (g ∷ gs) bs ts = runBy gs (past S (K (g .code)) bs) (ts ++ (openStepBy bs ts g ∷ []))
+
+  unfoldable pub evaluateBy : Circuit → List Block → List ℕ → List Block
+  evaluateBy c ts s = runBy (schemeBy (getD s 2 0)) (c .gates) (drop 9 s) ts
+
+-- A circuit c that 01 accepts, `circuitVerdictBy kind01 c ≡ fine`, is accepted, and gets what 01's table gives: p, and with it every length and
+-- every count of calls; the value of each wire; the zero tokens and the material of every garbling of it; and the tokens evaluated over any material.
+pub record SameBytes (c : List ℕ) : Type 0 where
+  pub accepted : circuitVerdict c ≡ fine
+  pub as-many : charges (circuitOf c .gates) ≡ chargesBy kind01 (circuitOf c .gates)
+  pub values : (vs : List ℕ) → ((i : ℕ) → getD vs i 0 ≤ 1) → plainValues (circuitOf c) vs ≡ wires (gateValueBy kind01) (circuitOf c .gates) vs
+  pub zeros : (γ : Garbling) → γ .circuit ≡ circuitOf c → zeroTokens γ ≡ zeroTokensBy kind01 γ
+  pub rows : (γ : Garbling) → γ .circuit ≡ circuitOf c → material γ ≡ materialBy kind01 γ
+  pub tokens : (ts : List Block) (s : List ℕ) → evaluate (circuitOf c) ts s ≡ evaluateBy kind01 (circuitOf c) ts s
