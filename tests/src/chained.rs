@@ -12,10 +12,13 @@ use crate::scheme::Scheme;
 
 /// The arguments of a chain.
 #[derive(Clone, Debug)]
-struct Chain {
-    circuit: Vec<u8>,
-    seed: Vec<u8>,
-    values: Vec<u8>,
+pub struct Chain {
+    /// The circuit's bytes.
+    pub circuit: Vec<u8>,
+    /// Garble's seed.
+    pub seed: Vec<u8>,
+    /// Encode's values.
+    pub values: Vec<u8>,
     scheme: u8,
     fill: u8,
     /// The lengths of the buffers: material, zero tokens, one tokens, tokens, wires, bits.
@@ -46,7 +49,7 @@ impl Chain {
 
     /// The line of the chain: circuit, seed, values, setting, answer, and the buffers of the wires
     /// and the bits after it. `due` is the call that must refuse, and its refusal's number.
-    fn case(&self, due: Option<(u8, u8)>) -> String {
+    pub fn case(&self, due: Option<(u8, u8)>) -> String {
         let mut buffers = self.lens.map(|length| vec![self.fill; length]);
         let ended = self.run_in(&mut buffers);
         let given = ended.err().map(|(call, refused)| (call, refused.number));
@@ -78,9 +81,14 @@ impl Chain {
     }
 }
 
-/// A chain that runs, with room to spare.
+/// A chain that runs, on any circuit of 01's codes.
 fn chain(random: &mut Random, scheme: Scheme) -> Chain {
     let circuit = generate::small_circuit(random);
+    chain_on(random, scheme, circuit)
+}
+
+/// A chain that runs, with room to spare.
+pub fn chain_on(random: &mut Random, scheme: Scheme, circuit: Vec<u8>) -> Chain {
     let sizes = op::check(&circuit).expect("an accepted circuit");
     let (list, wires) = (BLOCK * sizes.n, BLOCK * sizes.wires());
     let material = material::length(sizes, scheme);
@@ -114,8 +122,8 @@ pub fn cases() -> String {
         for (index, &(call, number)) in ENDS.iter().enumerate().skip(1) {
             let mut chain = chain(random, scheme);
             let (first, first_number) = ENDS[index - 1];
-            spoil(&mut chain, call, number);
             spoil(&mut chain, first, first_number);
+            spoil(&mut chain, call, number);
             text += &chain.case(Some((first, first_number)));
         }
     }
@@ -151,7 +159,9 @@ fn spoil(chain: &mut Chain, call: u8, number: u8) {
         (1, 4) => circuit.push(0),
         (1, 5) => circuit[9] ^= 1,
         (1, 6) => circuit[10..12].fill(0),
-        (1, 7) => circuit[14] = 3,
+        // 01 refused 3. Beside a faulty operand, which comes first, stored cases have it still.
+        (1, 7) if circuit[10..12] == [0, 0] => circuit[14] = 3,
+        (1, 7) => circuit[14] = 15,
         (1, 8) => chain.seed.push(0),
         (1, 14) => chain.scheme = 4,
         (1, 19) => chain.lens[0] = 0,

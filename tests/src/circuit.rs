@@ -1,4 +1,4 @@
-//! Circuits: reading with refusals 1 to 7, and the plain circuit (01, Circuit).
+//! Circuits: reading with refusals 1 to 7, and the plain circuit (01, Circuit; 02, job 2).
 
 use crate::refused::{refuse_if, Refused};
 
@@ -24,7 +24,7 @@ pub const TRUTH_PAIRS: [(Truth, Truth); 4] = [
 pub enum Kind {
     /// Has rows in the material.
     Charged,
-    /// XOR or XNOR: no rows.
+    /// No rows: XOR, XNOR, and the gates that use one operand.
     Free,
 }
 
@@ -44,7 +44,7 @@ impl Gate {
     pub fn kind(self) -> Option<Kind> {
         match self.code {
             1 | 2 | 4 | 7 | 8 | 11 | 13 | 14 => Some(Kind::Charged),
-            6 | 9 => Some(Kind::Free),
+            3 | 5 | 6 | 9 | 10 | 12 => Some(Kind::Free),
             _ => None,
         }
     }

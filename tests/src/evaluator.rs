@@ -32,7 +32,7 @@ pub fn calls(random: &mut Random, operation: Operation) -> Vec<Call> {
     calls
 }
 
-/// Every code on the two inputs of a circuit; a circuit without charged gates; chains of gates.
+/// Every code of 01 on the two inputs of a circuit; a circuit without charged gates; chains of gates.
 fn small_circuits(random: &mut Random) -> Vec<Vec<u8>> {
     let codes = [1, 2, 4, 6, 7, 8, 9, 11, 13, 14];
     let gates = codes.map(|code| Gate { a: 1, b: 2, code });
@@ -79,17 +79,33 @@ fn exact(
     call
 }
 
+/// The lists of n values.
+pub fn value_lists(n: usize) -> impl Iterator<Item = Vec<u8>> {
+    (0..1 << n).map(move |list: u32| (0..n).map(|i| (list >> i & 1) as u8).collect())
+}
+
+/// Calls on a garbling made here from any seed.
+pub fn own(random: &mut Random, operation: Operation, bytes: &[u8], scheme: Scheme) -> Vec<Call> {
+    let seed = generate::seed(random);
+    own_from(random, operation, bytes, scheme, &seed)
+}
+
 /// Calls on a garbling made here, one for each list of input values: evaluate on the tokens of the
 /// inputs, decode on those of the outputs that come of it.
-pub fn own(random: &mut Random, operation: Operation, bytes: &[u8], scheme: Scheme) -> Vec<Call> {
+pub fn own_from(
+    random: &mut Random,
+    operation: Operation,
+    bytes: &[u8],
+    scheme: Scheme,
+    seed: &[u8],
+) -> Vec<Call> {
     let sizes = op::check(bytes).expect("an accepted circuit");
     let Sizes { n, m, .. } = sizes;
     let wires = BLOCK * sizes.wires();
     let mut material = vec![0; material::length(sizes, scheme)];
     let (mut zeros, mut ones) = (vec![0; wires], vec![0; BLOCK * n]);
-    let (seed, byte) = (generate::seed(random), scheme.byte());
-    op::garble(bytes, &seed, byte, &mut material, &mut zeros, &mut ones).expect("room");
-    let lists = (0..1 << n).map(|list: u32| (0..n).map(|i| (list >> i & 1) as u8).collect());
+    let byte = scheme.byte();
+    op::garble(bytes, seed, byte, &mut material, &mut zeros, &mut ones).expect("room");
     let call = |values: Vec<u8>| {
         let (mut tokens, mut held) = (vec![0; BLOCK * n], vec![0; wires]);
         op::encode(bytes, &values, &zeros[..BLOCK * n], &ones, &mut tokens).expect("room");
@@ -101,7 +117,7 @@ pub fn own(random: &mut Random, operation: Operation, bytes: &[u8], scheme: Sche
         call.lens[0] += random.below(3);
         call
     };
-    lists.map(call).collect()
+    value_lists(n).map(call).collect()
 }
 
 /// A call on a stranger's material and any tokens.

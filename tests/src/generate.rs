@@ -14,11 +14,16 @@ use crate::operations;
 use crate::random::Random;
 use crate::scheme::Scheme;
 
+// 01's codes. The stored files of cases are drawn from these two lists: a longer one would change
+// every case.
 const CHARGED: [u8; 8] = [1, 2, 4, 7, 8, 11, 13, 14];
 const FREE: [u8; 2] = [6, 9];
 
+/// The free codes that use one operand (02, job 2).
+pub const ONE_OPERAND: [u8; 4] = [3, 5, 10, 12];
+
 /// An accepted circuit of n inputs and q gates, of which about `charged` in a hundred are charged.
-/// m is 1, q or something between.
+/// m is 1, q or something between. The codes are 01's.
 pub fn circuit(random: &mut Random, n: u16, q: u16, charged: usize) -> Vec<u8> {
     let m = match random.below(4) {
         0 => 1,
@@ -59,6 +64,28 @@ pub fn small_circuit(random: &mut Random) -> Vec<u8> {
     let q = random.between(1, most_gates) as u16;
     let charged = random.one_of(&[0, 30, 60, 100]);
     circuit(random, n, q, charged)
+}
+
+/// Turns about half of 01's free codes into codes that use one operand.
+fn use_one_operand(random: &mut Random, codes: Vec<&mut u8>) {
+    for code in codes {
+        if FREE.contains(code) && random.chance(50) {
+            *code = random.one_of(&ONE_OPERAND);
+        }
+    }
+}
+
+/// The circuit with about half of its free gates turned into gates that use one operand.
+pub fn with_one_operand(random: &mut Random, mut bytes: Vec<u8>) -> Vec<u8> {
+    let records = bytes[8..].chunks_exact_mut(7);
+    use_one_operand(random, records.map(|record| &mut record[6]).collect());
+    bytes
+}
+
+/// A small accepted circuit of any kind, of all codes.
+pub fn any_small_circuit(random: &mut Random) -> Vec<u8> {
+    let bytes = small_circuit(random);
+    with_one_operand(random, bytes)
 }
 
 /// A seed of 16 bytes.
@@ -106,6 +133,12 @@ pub fn garbled(random: &mut Random, circuit: &Circuit, scheme: Scheme) -> Vec<u8
 /// A call of the operation that is not refused.
 pub fn call(random: &mut Random, operation: Operation) -> Call {
     let bytes = small_circuit(random);
+    call_on(random, operation, &bytes)
+}
+
+/// A call of the operation that is not refused, on a circuit of all codes.
+pub fn any_call(random: &mut Random, operation: Operation) -> Call {
+    let bytes = any_small_circuit(random);
     call_on(random, operation, &bytes)
 }
 
@@ -200,17 +233,17 @@ pub fn program_input(random: &mut Random) -> Vec<u8> {
     match random.below(4) {
         0 => random.bytes(noise),
         1 => {
-            let mut bytes = small_circuit(random);
+            let mut bytes = any_small_circuit(random);
             bytes.truncate(8);
             bytes.extend(random.bytes(noise));
             bytes
         }
-        2 => small_circuit(random),
+        2 => any_small_circuit(random),
         _ => {
             let numbers: Vec<u8> = (0..random.between(1, 2))
                 .map(|_| random.one_of(Operation::Check.refusals()))
                 .collect();
-            damage::damaged_call(random, Operation::Check, &numbers).circuit
+            damage::any_damaged_call(random, Operation::Check, &numbers).circuit
         }
     }
 }

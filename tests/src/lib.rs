@@ -1,5 +1,6 @@
-//! A second implementation of document 01 ("01" below), written from the paper alone, and what the
-//! tests need around it: calls as values, a reader of stored cases and a generator of new ones.
+//! A second implementation of document 01 ("01" below) with job 2 of document 02 ("02"), written from
+//! the papers alone, and what the tests need around it: calls as values, a reader of stored cases and
+//! a generator of new ones.
 
 #![forbid(unsafe_code)]
 #![warn(missing_docs)]
@@ -18,6 +19,7 @@ pub mod large;
 pub mod lines;
 pub mod listed;
 pub mod material;
+pub mod one_operand;
 pub mod operations;
 pub mod pi;
 pub mod program;

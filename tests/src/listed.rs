@@ -34,7 +34,7 @@ pub fn calls(random: &mut Random) -> Vec<Call> {
 }
 
 /// A call of evaluate, in the list form.
-fn listed(call: &Call) -> Call {
+pub fn listed(call: &Call) -> Call {
     let circuit = Circuit::read(&call.circuit).expect("an accepted circuit");
     let Sizes { n, m, .. } = circuit.sizes();
     Call {
@@ -47,7 +47,7 @@ fn listed(call: &Call) -> Call {
     }
 }
 
-/// Every code on two inputs; and circuits with free gates alone, with charged gates alone, and with
+/// Every code of 01 on two inputs; and circuits with free gates alone, with charged gates alone, and with
 /// both.
 fn circuits(random: &mut Random) -> Vec<Vec<u8>> {
     let codes = [1, 2, 4, 6, 7, 8, 9, 11, 13, 14];
@@ -87,7 +87,7 @@ fn sound(random: &mut Random) -> Call {
 /// At every gate each fault of its operands, and of its code; with each, the gate after it has a
 /// fault of the other kind, which is not the one given.
 fn faults(random: &mut Random) -> Vec<Call> {
-    let codes = [0, 3, 5, 10, 12, 15, 16, 128, 134, 255];
+    let codes = [0, 19, 21, 26, 28, 15, 16, 128, 134, 255];
     let mut calls = Vec::new();
     for (k, code) in codes.into_iter().enumerate() {
         let call = sound(random);
@@ -159,7 +159,7 @@ fn damaged_call(random: &mut Random, falling: &[u8]) -> Call {
         let mut call = sound(random);
         let met = |&number: &u8| damage::damage(random, &mut call, number);
         if falling.iter().all(met) && call.gates.len() == GATES {
-            return call;
+            return damage::refused_still(call);
         }
     }
 }

@@ -180,7 +180,7 @@ fn evaluate_circuit(
     let mut rows = material.rows.iter();
     let held = circuit.over_wires(inputs, |wire, gate, a, b| {
         if gate.kind() == Some(Kind::Free) {
-            return evaluator.free(a, b);
+            return evaluator.free(gate, a, b);
         }
         let rows = rows.next().expect("material has a record for the gate");
         evaluator.charged(wire, rows, a, b)

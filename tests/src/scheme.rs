@@ -1,4 +1,5 @@
-//! The three schemes: garbling one gate and evaluating one gate (01, Tokens; Schemes 1 to 3).
+//! The three schemes: garbling one gate and evaluating one gate (01, Tokens; Schemes 1 to 3; 02,
+//! job 2).
 
 use crate::block::{Block, Colour, BLOCK};
 use crate::circuit::{Gate, Kind, Truth, TRUTH_PAIRS};
@@ -144,8 +145,7 @@ impl Garbler {
     /// Garbles the gate on wire g, whose operands have the zero tokens xa and xb.
     pub fn gate(&mut self, g: usize, gate: Gate, xa: Block, xb: Block) -> GarbledGate {
         if gate.kind() == Some(Kind::Free) {
-            // Xa ⊕ Xb, and ⊕ R more for code 9.
-            let zero = xa ^ xb ^ self.offset.times(gate.code == 9);
+            let zero = self.free(gate, xa, xb);
             let rows = Vec::new();
             return GarbledGate { zero, rows };
         }
@@ -153,6 +153,20 @@ impl Garbler {
             Scheme::GaX => self.gax(g, self.pairs(gate, xa, xb)),
             Scheme::GaXR => self.gaxr(g, self.pairs(gate, xa, xb)),
             Scheme::HalfGates => self.half_gates(g, gate, xa, xb),
+        }
+    }
+
+    /// X of a free gate: Xa ⊕ Xb for code 6, and ⊕ R more for code 9; 12 and 10 pass on the token of
+    /// a and of b, 3 and 5 the same with the zero token ⊕ R.
+    fn free(&self, gate: Gate, xa: Block, xb: Block) -> Block {
+        match gate.code {
+            6 => xa ^ xb,
+            9 => xa ^ xb ^ self.offset,
+            12 => xa,
+            10 => xb,
+            3 => xa ^ self.offset,
+            5 => xb ^ self.offset,
+            code => panic!("code {code} is not free"),
         }
     }
 
@@ -235,9 +249,15 @@ impl Evaluator {
         self.pi.calls()
     }
 
-    /// The token of a free gate.
-    pub fn free(&self, a: Block, b: Block) -> Block {
-        a ^ b
+    /// The token of a free gate, from the operand tokens held: R is not known here, so 3 and 5 pass on
+    /// what they get, as 12 and 10 do.
+    pub fn free(&self, gate: Gate, a: Block, b: Block) -> Block {
+        match gate.code {
+            6 | 9 => a ^ b,
+            12 | 3 => a,
+            10 | 5 => b,
+            code => panic!("code {code} is not free"),
+        }
     }
 
     /// The token of the charged gate on wire g, from the operand tokens held and its stored rows.

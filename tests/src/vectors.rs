@@ -11,6 +11,7 @@ use crate::generate::{self, damage};
 use crate::large::{self, Rule};
 use crate::lines;
 use crate::listed;
+use crate::one_operand;
 use crate::random::Random;
 
 /// A file of cases, a line each.
@@ -34,42 +35,60 @@ impl File {
     }
 }
 
+/// The files of stored cases.
+const STORED: [(&str, Operation); 7] = [
+    ("check", Operation::Check),
+    ("plain", Operation::Plain),
+    ("garble", Operation::Garble),
+    ("encode", Operation::Encode),
+    ("pick", Operation::Pick),
+    ("evaluate", Operation::Evaluate),
+    ("decode", Operation::Decode),
+];
+
+/// The files of new cases with 01's codes.
+const GENERATED: [(&str, Operation); 5] = [
+    ("garble-generated", Operation::Garble),
+    ("encode-generated", Operation::Encode),
+    ("pick-generated", Operation::Pick),
+    ("evaluate-generated", Operation::Evaluate),
+    ("decode-generated", Operation::Decode),
+];
+
+/// The files of new cases with gates that use one operand.
+const ONE_OPERAND: [(&str, Operation); 5] = [
+    ("plain-one-operand", Operation::Plain),
+    ("garble-one-operand", Operation::Garble),
+    ("evaluate-one-operand", Operation::Evaluate),
+    ("evaluate-gates-one-operand", Operation::EvaluateGates),
+    ("decode-one-operand", Operation::Decode),
+];
+
 /// All files made here.
 pub fn files() -> Vec<File> {
-    let stored = [
-        ("check", Operation::Check),
-        ("plain", Operation::Plain),
-        ("garble", Operation::Garble),
-        ("encode", Operation::Encode),
-        ("pick", Operation::Pick),
-        ("evaluate", Operation::Evaluate),
-        ("decode", Operation::Decode),
-    ];
-    let generated = [
-        ("garble-generated", Operation::Garble),
-        ("encode-generated", Operation::Encode),
-        ("pick-generated", Operation::Pick),
-        ("evaluate-generated", Operation::Evaluate),
-        ("decode-generated", Operation::Decode),
-    ];
     let mut files = Vec::new();
-    for (name, operation) in stored {
-        let text = stored_cases(operation);
-        files.push(File { name, text });
+    let mut add = |name, text| files.push(File { name, text });
+    for (name, operation) in STORED {
+        add(name, stored_cases(operation));
     }
-    for (name, operation) in generated {
-        let text = generated_cases(operation);
-        files.push(File { name, text });
+    for (name, operation) in GENERATED {
+        add(name, generated_cases(operation));
     }
-    let (name, text) = ("evaluate-gates", stored_lists());
-    files.push(File { name, text });
-    let (name, text) = ("evaluate-gates-generated", generated_lists());
-    files.push(File { name, text });
-    let (name, text) = ("chain-generated", chained::cases());
-    files.push(File { name, text });
-    let (name, text) = ("garble-large", large_cases());
-    files.push(File { name, text });
+    for (name, operation) in ONE_OPERAND {
+        add(name, cases_of(&one_operand::calls(operation)));
+    }
+    add("evaluate-gates", stored_lists());
+    add("evaluate-gates-generated", generated_lists());
+    add("chain-generated", chained::cases());
+    add("chain-one-operand", one_operand::chains());
+    add("garble-large", large_cases());
     files
+}
+
+/// The lines of calls, with what comes of them here.
+fn cases_of(calls: &[Call]) -> String {
+    let line = |call: &Call| lines::case(call, &call.run());
+    calls.iter().map(line).collect()
 }
 
 /// The stored cases of an operation, with the answers stored.
@@ -109,8 +128,7 @@ fn generated_cases(operation: Operation) -> String {
     if matches!(operation, Operation::Evaluate | Operation::Decode) {
         calls.extend(evaluator::calls(&mut random, operation));
     }
-    let line = |call: &Call| lines::case(call, &call.run());
-    calls.iter().map(line).collect()
+    cases_of(&calls)
 }
 
 /// The stored cases of the list form on as many gates as those made here.
@@ -122,9 +140,7 @@ fn stored_lists() -> String {
 
 /// New cases of the list form.
 fn generated_lists() -> String {
-    let calls = listed::calls(&mut Random::new(1_010));
-    let line = |call: &Call| lines::case(call, &call.run());
-    calls.iter().map(line).collect()
+    cases_of(&listed::calls(&mut Random::new(1_010)))
 }
 
 /// n, m, q and the period of large garblings, which each scheme makes.
@@ -146,7 +162,7 @@ const LARGE: [(u16, u16, u16, u16); 14] = [
 ];
 
 /// Large garblings by each scheme; and, for each pair of colours of the first two inputs' zero
-/// tokens, a garbling that has every code.
+/// tokens, a garbling that has every code of 01.
 fn large_cases() -> String {
     let mut random = Random::new(65_535);
     let mut text = String::new();

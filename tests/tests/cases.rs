@@ -1,12 +1,14 @@
-//! Every stored case of a third reading of 01: answers and whole buffers.
+//! Every stored case of a third reading of 01, and of 01 with 02's job 2: answers and whole buffers.
 
 use std::collections::BTreeMap;
 
 use second::cases::{self, Asked, Case};
 use second::program;
 
-/// The cases that the file has for each operation.
-const COUNTS: [(&str, usize); 9] = [
+/// The cases that a file has for each operation.
+type Counts = [(&'static str, usize); 9];
+
+const BASE: Counts = [
     ("check", 63),
     ("decode", 62),
     ("encode", 63),
@@ -16,6 +18,18 @@ const COUNTS: [(&str, usize); 9] = [
     ("pick", 31),
     ("plain", 63),
     ("program", 31),
+];
+
+const JOB02: Counts = [
+    ("check", 38),
+    ("decode", 38),
+    ("encode", 37),
+    ("evaluate", 56),
+    ("evaluate_list", 19),
+    ("garble", 38),
+    ("pick", 19),
+    ("plain", 37),
+    ("program", 18),
 ];
 
 fn compare(case: &Case) {
@@ -33,14 +47,24 @@ fn compare(case: &Case) {
     }
 }
 
-#[test]
-fn all_cases_agree() {
-    let cases = cases::read(include_str!("../data/base.jsonl")).expect("readable cases");
+/// Compares every case of a file, which has so many of each operation.
+fn compare_all(text: &str, due: Counts) {
+    let cases = cases::read(text).expect("readable cases");
     let mut counts = BTreeMap::new();
     for case in &cases {
         compare(case);
         *counts.entry(case.op.as_str()).or_insert(0) += 1;
     }
     println!("cases per operation: {counts:?}");
-    assert_eq!(counts.into_iter().collect::<Vec<_>>(), COUNTS);
+    assert_eq!(counts.into_iter().collect::<Vec<_>>(), due);
+}
+
+#[test]
+fn all_cases_agree() {
+    compare_all(include_str!("../data/base.jsonl"), BASE);
+}
+
+#[test]
+fn all_cases_with_one_operand_agree() {
+    compare_all(include_str!("../data/job02.jsonl"), JOB02);
 }

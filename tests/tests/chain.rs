@@ -2,15 +2,19 @@
 
 use std::collections::BTreeSet;
 
-use second::block::{Block, BLOCK};
+use second::block::{Block, Colour, BLOCK};
 use second::circuit::{Circuit, Sizes};
 use second::generate;
+use second::large::coloured_seed;
 use second::operations::{decode, encode, evaluate, evaluate_gates, garble, plain};
 use second::random::Random;
 use second::scheme::Scheme;
 use second::token::Seed;
 
 const SCHEMES: [Scheme; 3] = [Scheme::GaX, Scheme::GaXR, Scheme::HalfGates];
+
+/// The codes that are not refused.
+const CODES: [u8; 14] = [1, 2, 3, 4, 5, 6, 7, 8, 9, 10, 11, 12, 13, 14];
 
 /// What the four calls of the chain leave.
 struct Chain {
@@ -92,16 +96,19 @@ fn seed_block(random: &mut Random) -> [u8; BLOCK] {
     Block::list(&generate::seed(random))[0].0
 }
 
+/// And with every pair of colours of the operands' zero tokens.
 #[test]
 fn every_code_on_every_pair_of_values() {
     let mut random = Random::new(11);
-    for code in [1, 2, 4, 6, 7, 8, 9, 11, 13, 14] {
+    for code in CODES {
         let mut bytes = generate::circuit(&mut random, 2, 1, 0);
         bytes[14] = code;
         for (round, scheme) in (0..16).flat_map(|round| SCHEMES.map(|scheme| (round, scheme))) {
             let values = [round / 2 % 2, round % 2];
-            let name = format!("code {code}, values {values:?}");
-            check_chain(&bytes, scheme, &seed_block(&mut random), &values, &name);
+            let colours = [round / 8 == 1, round / 4 % 2 == 1].map(Colour);
+            let name = format!("code {code}, values {values:?}, {colours:?}");
+            let seed = Block::list(&coloured_seed(&mut random, colours))[0].0;
+            check_chain(&bytes, scheme, &seed, &values, &name);
         }
     }
 }
@@ -111,7 +118,7 @@ fn random_circuits() {
     let mut random = Random::new(12);
     let mut codes = BTreeSet::new();
     for round in 0..400 {
-        let bytes = generate::small_circuit(&mut random);
+        let bytes = generate::any_small_circuit(&mut random);
         let circuit = Circuit::read(&bytes).expect("an accepted circuit");
         codes.extend(circuit.gates().map(|(_, gate)| gate.code));
         let values = generate::values(&mut random, circuit.sizes().n);
@@ -120,8 +127,7 @@ fn random_circuits() {
             check_chain(&bytes, scheme, &seed, &values, &format!("round {round}"));
         }
     }
-    let all = [1, 2, 4, 6, 7, 8, 9, 11, 13, 14];
-    assert_eq!(codes.into_iter().collect::<Vec<u8>>(), all);
+    assert_eq!(codes.into_iter().collect::<Vec<u8>>(), CODES);
 }
 
 #[test]
@@ -129,6 +135,7 @@ fn largest_circuits() {
     let mut random = Random::new(13);
     for (n, q, charged) in [(4096, 61_439, 50), (2, 65_533, 100), (2, 65_533, 0)] {
         let bytes = generate::circuit(&mut random, n, q, charged);
+        let bytes = generate::with_one_operand(&mut random, bytes);
         let values = generate::values(&mut random, usize::from(n));
         let seed = seed_block(&mut random);
         for scheme in SCHEMES {

@@ -102,6 +102,10 @@ fn limits_of_n_m_and_q() {
 fn what_the_program_prints() {
     assert_eq!(program::output(&P11), "2 1 1 1\n80 64 48\n");
     assert_eq!(program::output(&p11_with(1, 2, 0)), "refused 7 3\n");
+    // 02, job 2: a gate that uses one operand has no row; 15 and 16 are refused still.
+    assert_eq!(program::output(&p11_with(1, 2, 3)), "2 1 1 0\n12 12 12\n");
+    assert_eq!(program::output(&p11_with(1, 2, 15)), "refused 7 3\n");
+    assert_eq!(program::output(&p11_with(1, 2, 16)), "refused 7 3\n");
     assert_eq!(program::output(&[]), "refused 1 0\n");
     assert_eq!(program::output(&[0; 65_536]), "refused 2 0\n");
     assert_eq!(program::output(&[0; 65_537]), "too long\n");

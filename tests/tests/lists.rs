@@ -8,13 +8,18 @@ use second::interface;
 use second::lines;
 
 /// The files, each with its name and how many cases it has: of the third reading of 01, and of the
-/// second implementation.
-const FILES: [(&str, &str, usize); 2] = [
+/// second implementation, with 01's codes and with gates that use one operand.
+const FILES: [(&str, &str, usize); 3] = [
     ("evaluate-gates", include_str!("../data/evaluate-gates"), 4),
     (
         "evaluate-gates-generated",
         include_str!("../data/evaluate-gates-generated"),
         462,
+    ),
+    (
+        "evaluate-gates-one-operand",
+        include_str!("../data/evaluate-gates-one-operand"),
+        198,
     ),
 ];
 

@@ -80,15 +80,18 @@ fn compare_with_module(input: &[u8], name: &str) {
 
 #[test]
 fn stored_cases() {
-    let cases = cases::read(include_str!("../data/base.jsonl")).expect("readable cases");
-    let mut count = 0;
-    for case in &cases {
-        if let Asked::Program { input, output } = &case.asked {
-            compare(input, output, &format!("case {}", case.id));
-            count += 1;
+    let base = include_str!("../data/base.jsonl");
+    let job02 = include_str!("../data/job02.jsonl");
+    for (name, text, due) in [("base", base, 31), ("job02", job02, 18)] {
+        let mut count = 0;
+        for case in &cases::read(text).expect("readable cases") {
+            if let Asked::Program { input, output } = &case.asked {
+                compare(input, output, &format!("case {} of {name}", case.id));
+                count += 1;
+            }
         }
+        assert_eq!(count, due, "{name}");
     }
-    assert_eq!(count, 31);
 }
 
 #[test]
@@ -97,6 +100,10 @@ fn examples_of_the_table() {
     let mut p12 = P11;
     p12[14] = 0;
     compare(&p12, "refused 7 3\n", "P12");
+    p12[14] = 15;
+    compare(&p12, "refused 7 3\n", "P12 with code 15");
+    p12[14] = 3;
+    compare(&p12, "2 1 1 0\n12 12 12\n", "P12 with code 3");
     compare(&[], "refused 1 0\n", "empty input");
 }
 
@@ -106,7 +113,8 @@ fn around_the_longest_input() {
     compare(&[0; LIMIT + 1], "too long\n", "65,537 bytes");
     compare(&[0; 8 * LIMIT], "too long\n", "524,288 bytes");
     let mut random = Random::new(31);
-    let mut circuit = generate::circuit(&mut random, 4, 9361, 50);
+    let circuit = generate::circuit(&mut random, 4, 9361, 50);
+    let mut circuit = generate::with_one_operand(&mut random, circuit);
     assert_eq!(circuit.len(), LIMIT - 1);
     compare_with_module(&circuit, "a circuit of 65,535 bytes");
     circuit.push(0);

@@ -7,8 +7,8 @@ use std::collections::BTreeSet;
 use second::block::BLOCK;
 use second::call::{Call, Operation};
 use second::circuit::to_bytes;
-use second::generate::call;
-use second::generate::damage::damaged_call;
+use second::generate::any_call;
+use second::generate::damage::any_damaged_call;
 use second::random::Random;
 
 /// The numbers that may be due where both conditions hold: the lower, or, in the one search for
@@ -67,7 +67,7 @@ fn sound_calls_write_the_bytes_named_and_no_more() {
     let mut random = Random::new(21);
     for operation in Operation::ALL {
         for _ in 0..300 {
-            let call = call(&mut random, operation);
+            let call = any_call(&mut random, operation);
             assert_eq!(refused(&call), None, "{operation:?}: {call:02x?}");
             match operation {
                 Operation::Pick => check_picked(&call),
@@ -84,7 +84,7 @@ fn each_condition_alone() {
     for operation in Operation::ALL {
         for &number in operation.refusals() {
             for _ in 0..60 {
-                let call = damaged_call(&mut random, operation, &[number]);
+                let call = any_damaged_call(&mut random, operation, &[number]);
                 assert_eq!(refused(&call), Some(number), "{operation:?}");
                 met.insert(number);
             }
@@ -100,7 +100,7 @@ fn two_conditions_at_once() {
         for &first in operation.refusals() {
             for &second in operation.refusals() {
                 for _ in 0..10 {
-                    let call = damaged_call(&mut random, operation, &[first, second]);
+                    let call = any_damaged_call(&mut random, operation, &[first, second]);
                     let number = refused(&call);
                     // Of two damages of one number, the second may undo the first.
                     if first != second {
@@ -122,7 +122,7 @@ fn list_form_answers_as_its_bytes() {
     let mut compared = 0;
     for _ in 0..2000 {
         let aims = [random.one_of(numbers), random.one_of(numbers)];
-        let by_list = damaged_call(&mut random, Operation::EvaluateGates, &aims);
+        let by_list = any_damaged_call(&mut random, Operation::EvaluateGates, &aims);
         let number = refused(&by_list);
         // No bytes have so many gates.
         if by_list.gates.len() > 65_535 {

@@ -22,5 +22,6 @@ fn run_file(large: bool, path: &[u8]) {
 fn main() {
     run_file(false, b"garble");
     run_file(false, b"garble-generated");
+    run_file(false, b"garble-one-operand");
     run_file(true, b"garble-large");
 }

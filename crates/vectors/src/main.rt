@@ -58,8 +58,17 @@ fn run_generated() {
     run_file(12, b"chain-generated");
 }
 
+// Cases of the second implementation with gates that use one operand (02, job 2).
+fn run_one_operand() {
+    run_file(5, b"plain-one-operand");
+    run_file(10, b"evaluate-one-operand");
+    run_file(11, b"decode-one-operand");
+    run_file(12, b"chain-one-operand");
+}
+
 fn main() {
     run_outside();
     run_stored();
     run_generated();
+    run_one_operand();
 }

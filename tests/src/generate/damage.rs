@@ -1,6 +1,6 @@
 //! Calls damaged so that a chosen condition holds (01, Turned down, by number).
 
-use super::{call, room};
+use super::{call, room, use_one_operand, CHARGED, FREE, ONE_OPERAND};
 use crate::block::BLOCK;
 use crate::call::{Call, Operation};
 use crate::circuit::Gate;
@@ -8,7 +8,7 @@ use crate::random::Random;
 
 /// A call of the operation with every condition of `numbers` met at once. They are brought about in
 /// falling number, so that a later one does not undo the condition that must be given; of a number
-/// named twice, the second damage may undo the first.
+/// named twice, the second damage may undo the first. Sound gates have 01's codes.
 pub fn damaged_call(random: &mut Random, operation: Operation, numbers: &[u8]) -> Call {
     for number in numbers {
         let has = operation.refusals().contains(number);
@@ -20,14 +20,44 @@ pub fn damaged_call(random: &mut Random, operation: Operation, numbers: &[u8]) -
         let mut call = call(random, operation);
         let met = |&number: &u8| damage(random, &mut call, number);
         if falling.iter().all(met) {
-            return call;
+            return refused_still(call);
         }
     }
 }
 
-/// Damages one argument of the call so that condition `number` holds. False where it cannot: the
-/// operation has no such argument, there is no row record to spoil, or earlier damage is in the
-/// way.
+/// The same with sound gates of all codes.
+pub fn any_damaged_call(random: &mut Random, operation: Operation, numbers: &[u8]) -> Call {
+    let mut call = damaged_call(random, operation, numbers);
+    use_one_operand(random, codes(&mut call));
+    call
+}
+
+/// A call drawn by 01's codes. Where its refusal was a code that is free now (02, job 2), 16 is added
+/// to that code: then it is refused as it was.
+pub fn refused_still(call: Call) -> Call {
+    let mut raised = call.clone();
+    for code in codes(&mut raised) {
+        *code += if ONE_OPERAND.contains(code) { 16 } else { 0 };
+    }
+    let refused = raised.read_circuit().err();
+    match refused.is_some_and(|refused| refused.number == 7) {
+        true => raised,
+        false => call,
+    }
+}
+
+/// The codes of the call's gates, in the bytes or in the list.
+fn codes(call: &mut Call) -> Vec<&mut u8> {
+    if call.operation == Operation::EvaluateGates {
+        return call.gates.iter_mut().map(|gate| &mut gate.code).collect();
+    }
+    let records = gate_records(call).into_iter();
+    records.map(|record| &mut record[6]).collect()
+}
+
+/// Damages one argument of the call so that condition `number` holds, by 01's codes: `refused_still`
+/// does the rest. False where it cannot: the operation has no such argument, there is no row record to
+/// spoil, or earlier damage is in the way.
 pub fn damage(random: &mut Random, call: &mut Call, number: u8) -> bool {
     if !call.operation.refusals().contains(&number) {
         return false;
@@ -167,13 +197,13 @@ fn spoil_gate(random: &mut Random, call: &mut Call, number: u8) -> bool {
     true
 }
 
-/// The gate with operands out of their limit (6) or a refused code (7).
+/// The gate with operands out of their limit (6) or a code that 01 refuses (7).
 fn bad_gate(random: &mut Random, gate: Gate, wire: usize, number: u8) -> Gate {
     let Gate { a, b, .. } = gate;
     if number == 7 {
         let mut bad = gate;
         let most = random.one_of(&[15, 255]);
-        while bad.kind().is_some() {
+        while CHARGED.contains(&bad.code) || FREE.contains(&bad.code) {
             bad.code = random.between(0, most) as u8;
         }
         return bad;

@@ -1,7 +1,7 @@
 //! The edges of the refusals: from sound calls on small circuits, every argument is moved across
 //! each of its limits, one step at a time. Which refusal is due is not known here.
 
-use super::{call_on, circuit, room};
+use super::{call_on, circuit, room, with_one_operand};
 use crate::block::BLOCK;
 use crate::call::{Call, Operation};
 use crate::circuit::Gate;
@@ -27,6 +27,7 @@ pub fn edges(random: &mut Random, operation: Operation) -> Vec<Edge> {
     let mut found = Vec::new();
     for (n, q, charged) in [(2, 1, 100), (3, 2, 0), (5, 9, 60)] {
         let bytes = circuit(random, n, q, charged);
+        let bytes = with_one_operand(random, bytes);
         for scheme in 1..=3 {
             let base = with_scheme(random, operation, &bytes, scheme);
             found.extend(around(base));

@@ -2,7 +2,7 @@
 //! Faults are at the far end, where a place needs the most bits.
 
 use super::edges::Edge;
-use super::{call_on, circuit, room};
+use super::{call_on, circuit, room, with_one_operand};
 use crate::block::BLOCK;
 use crate::call::{Call, Operation};
 use crate::random::Random;
@@ -32,7 +32,8 @@ struct Calls {
 /// The calls of an operation on the shape of that number; none past the last.
 pub fn calls(random: &mut Random, operation: Operation, shape: usize) -> Option<Vec<Edge>> {
     let &(n, q, charged) = SHAPES.get(shape)?;
-    let mut bytes = circuit(random, n, q, charged);
+    let bytes = circuit(random, n, q, charged);
+    let mut bytes = with_one_operand(random, bytes);
     // m by turns at both of its ends.
     let m = if shape.is_multiple_of(2) { q } else { 1 };
     bytes[4..6].copy_from_slice(&m.to_be_bytes());

@@ -1,8 +1,8 @@
 //! Calls of every kind, each by a seed and a case number: sound, with one condition met or several,
 //! tampered with, or noise. What must come of them is not known here.
 
-use super::damage::damaged_call;
-use super::{call, call_on, circuit, program_input, room};
+use super::damage::any_damaged_call;
+use super::{any_call, call_on, circuit, program_input, room, with_one_operand};
 use crate::call::{Call, Operation};
 use crate::random::Random;
 
@@ -31,7 +31,7 @@ fn any(random: &mut Random, operation: Operation) -> Call {
             let q = random.between(1, 3000) as u16;
             sized(random, operation, n, q)
         }
-        10..=299 => call(random, operation),
+        10..=299 => any_call(random, operation),
         300..=549 => damaged(random, operation, 1),
         550..=799 => damaged(random, operation, 2),
         800..=849 => damaged(random, operation, 3),
@@ -44,6 +44,7 @@ fn any(random: &mut Random, operation: Operation) -> Call {
 fn sized(random: &mut Random, operation: Operation, n: u16, q: u16) -> Call {
     let charged = random.one_of(&[5, 50, 100]);
     let bytes = circuit(random, n, q, charged);
+    let bytes = with_one_operand(random, bytes);
     call_on(random, operation, &bytes)
 }
 
@@ -54,7 +55,7 @@ fn damaged(random: &mut Random, operation: Operation, count: usize) -> Call {
         .collect();
     numbers.sort_unstable();
     numbers.dedup();
-    damaged_call(random, operation, &numbers)
+    any_damaged_call(random, operation, &numbers)
 }
 
 /// Makes every output buffer that has room to spare exact.
@@ -67,7 +68,7 @@ fn fit(call: &mut Call) {
 
 /// A sound call of which one to three arguments are changed somewhere.
 fn tampered(random: &mut Random, operation: Operation) -> Call {
-    let mut call = call(random, operation);
+    let mut call = any_call(random, operation);
     for _ in 0..random.between(1, 3) {
         if random.chance(85) {
             tamper_list(random, &mut call);
@@ -132,7 +133,7 @@ fn tamper_number(random: &mut Random, call: &mut Call) {
 
 /// A call whose lists are noise, but that its circuit may be sound; often of plausible lengths.
 fn noise(random: &mut Random, operation: Operation) -> Call {
-    let mut call = call(random, operation);
+    let mut call = any_call(random, operation);
     if operation != Operation::EvaluateGates && operation != Operation::Pick {
         call.circuit = program_input(random);
     }

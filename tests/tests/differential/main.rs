@@ -18,7 +18,7 @@ use std::time::Instant;
 
 use second::call::{Call, Operation};
 use second::cases::{self, Asked};
-use second::generate::damage::damaged_call;
+use second::generate::damage::any_damaged_call;
 use second::generate::{edges, limits, mixed};
 use second::random::Random;
 
@@ -42,7 +42,7 @@ impl Run {
     /// Compares one call; where the sides differ, prints how to run it again.
     fn call(&mut self, call: &Call, skew: usize, again: impl Fn() -> String) {
         match compare::compare(call, skew) {
-            Ok(number) => self.coverage.count(call.operation, number),
+            Ok(answer) => self.coverage.count(call, &answer),
             Err(difference) => {
                 self.failures += 1;
                 if self.failures <= MOST_SHOWN {
@@ -97,7 +97,7 @@ impl Run {
             for &first in operation.refusals() {
                 for &second in operation.refusals() {
                     for skew in 0..4 {
-                        let call = damaged_call(&mut random, operation, &[first, second]);
+                        let call = any_damaged_call(&mut random, operation, &[first, second]);
                         let again = || format!("pair {first} and {second}");
                         self.call(&call, skew, again);
                     }
@@ -121,12 +121,16 @@ impl Run {
         }
     }
 
-    /// The stored cases of a third reading of 01. The second implementation agrees with all of them.
+    /// The stored cases of a third reading of 01, and of 01 with 02's job 2. The second implementation
+    /// agrees with all of them.
     fn stored(&mut self) {
-        let stored = cases::read(include_str!("../../data/base.jsonl")).expect("readable cases");
-        for case in &stored {
-            if let Asked::Call { call, .. } = &case.asked {
-                self.call(call, 0, || format!("stored case {}", case.id));
+        let base = include_str!("../../data/base.jsonl");
+        let job02 = include_str!("../../data/job02.jsonl");
+        for (name, text) in [("base", base), ("job02", job02)] {
+            for case in &cases::read(text).expect("readable cases") {
+                if let Asked::Call { call, .. } = &case.asked {
+                    self.call(call, 0, || format!("stored case {} of {name}", case.id));
+                }
             }
         }
     }
@@ -162,9 +166,11 @@ impl Run {
         self.random_case(number, &format!("--seed {seed} --case {number}"));
     }
 
-    /// Every refusal that an operation can give was met.
+    /// Every refusal that an operation can give was met, and every code, taken or refused as is due.
     fn all_met(&mut self) {
-        for missing in self.coverage.report(&self.operations) {
+        let mut missing = self.coverage.report(&self.operations);
+        missing.extend(self.coverage.report_codes());
+        for missing in missing {
             println!("NOT MET: {missing}");
             self.failures += 1;
         }

@@ -1,4 +1,4 @@
-//! What is due to a call, worked out once more, from its arguments and 01 alone. Library `second`
+//! What is due to a call, worked out once more, from its arguments, 01 and 02 alone. Library `second`
 //! gives only the call, the refusals that its operation has, and the bytes made from a list.
 
 use second::call::{Call, Operation};
@@ -6,7 +6,7 @@ use second::circuit::to_bytes;
 use second::refused::Refused;
 
 const CHARGED: [u8; 8] = [1, 2, 4, 7, 8, 11, 13, 14];
-const FREE: [u8; 2] = [6, 9];
+const FREE: [u8; 6] = [3, 5, 6, 9, 10, 12];
 
 /// The answer due: the first condition that holds, in rising number, or the numbers returned.
 pub fn answer(call: &Call) -> Result<Vec<u64>, Refused> {

@@ -1,0 +1,120 @@
+//! The circuits of ../examples: what the program prints of them, and what the two comparators compute,
+//! by the second implementation and by the archive.
+
+#[path = "../src/archive.rs"]
+mod archive;
+
+use std::fs;
+
+use second::call::{Call, Operation};
+use second::generate;
+use second::operations::plain;
+use second::program;
+use second::random::Random;
+
+/// An example's bytes.
+fn example(name: &str) -> Vec<u8> {
+    let top = concat!(env!("CARGO_MANIFEST_DIR"), "/..");
+    fs::read(format!("{top}/examples/{name}.circuit")).expect("an example")
+}
+
+/// When a comparator's output is 1, for a price and a ceiling.
+type Holds = fn(&u8, &u8) -> bool;
+
+/// The comparators: the name, the wires, and when the output is 1.
+const COMPARATORS: [(&str, usize, Holds); 2] = [
+    ("price-at-most-ceiling-8", 45, u8::le),
+    ("price-over-ceiling-8", 46, u8::gt),
+];
+
+/// The input values: the price and then the ceiling, lowest bit first.
+fn values(price: u8, ceiling: u8) -> Vec<u8> {
+    let bits = |number: u8| (0..8).map(move |i| number >> i & 1);
+    bits(price).chain(bits(ceiling)).collect()
+}
+
+/// The output buffers of a call, which the archive must not refuse.
+fn by_archive(call: &Call) -> Vec<Vec<u8>> {
+    let answer =
+        archive::run(call, &call.buffers(), 0).expect("nothing written beside the buffers");
+    assert_eq!(answer.number, 0, "{:?}", call.operation);
+    answer.buffers
+}
+
+/// A call of an operation on a circuit, with buffers of these lengths.
+fn call(operation: Operation, circuit: &[u8], lens: &[usize]) -> Call {
+    Call {
+        operation,
+        circuit: circuit.to_vec(),
+        lens: lens.to_vec(),
+        ..Call::default()
+    }
+}
+
+/// With n, m, q, p: lengths of 11+m+p(4+16r) bytes, r = 4, 3, 2.
+#[test]
+fn what_the_program_prints_of_them() {
+    let printed = |name| program::output(&example(name));
+    assert_eq!(printed("and"), "2 1 1 1\n80 64 48\n");
+    assert_eq!(printed("refused-code"), "refused 7 3\n");
+    let at_most = printed("price-at-most-ceiling-8");
+    assert_eq!(at_most, "16 1 29 8\n556 428 300\n");
+    let over = printed("price-over-ceiling-8");
+    assert_eq!(over, "16 1 30 8\n556 428 300\n");
+}
+
+#[test]
+fn every_price_and_ceiling() {
+    for (name, wires, holds) in COMPARATORS {
+        let circuit = example(name);
+        let mut call = call(Operation::Plain, &circuit, &[wires]);
+        for (price, ceiling) in (0..=255).flat_map(|price| (0..=255).map(move |c| (price, c))) {
+            let mut carried = vec![0; wires];
+            call.values = values(price, ceiling);
+            assert_eq!(plain(&circuit, &call.values, &mut carried), Ok(()));
+            let due = u8::from(holds(&price, &ceiling));
+            assert_eq!(carried[wires - 1], due, "{name}: {price}, {ceiling}");
+            assert_eq!(by_archive(&call), [carried], "{name}: {price}, {ceiling}");
+        }
+    }
+}
+
+/// The bit that the archive's garble, encode, evaluate and decode give.
+fn garbled_bit(circuit: &[u8], wires: usize, seed: &[u8], scheme: u8, values: Vec<u8>) -> u8 {
+    let length = 12 + 8 * (4 + 16 * (5 - usize::from(scheme)));
+    let mut garble = call(Operation::Garble, circuit, &[length, 16 * wires, 16 * 16]);
+    (garble.seed, garble.scheme) = (seed.to_vec(), scheme);
+    let [material, zeros, ones] = by_archive(&garble).try_into().expect("three buffers");
+    let mut encode = call(Operation::Encode, circuit, &[16 * 16]);
+    (encode.values, encode.zero, encode.one) = (values, zeros[..16 * 16].to_vec(), ones);
+    let mut evaluate = call(Operation::Evaluate, circuit, &[16 * wires]);
+    (evaluate.tokens, evaluate.material) = (by_archive(&encode).concat(), material.clone());
+    let held = by_archive(&evaluate).concat();
+    let mut decode = call(Operation::Decode, circuit, &[1]);
+    (decode.tokens, decode.material) = (held[16 * (wires - 1)..].to_vec(), material);
+    by_archive(&decode)[0][0]
+}
+
+#[test]
+fn garbled_by_each_scheme() {
+    let mut random = Random::new(51);
+    let pairs = [
+        (0, 0),
+        (0, 255),
+        (255, 0),
+        (255, 255),
+        (127, 128),
+        (128, 127),
+    ];
+    let others = (0..60).map(|_| (random.byte(), random.byte()));
+    let pairs: Vec<(u8, u8)> = pairs.into_iter().chain(others).collect();
+    for (name, wires, holds) in COMPARATORS {
+        let circuit = example(name);
+        for (scheme, &(price, ceiling)) in (1..=3).flat_map(|s| pairs.iter().map(move |p| (s, p))) {
+            let seed = generate::seed(&mut random);
+            let bit = garbled_bit(&circuit, wires, &seed, scheme, values(price, ceiling));
+            let due = u8::from(holds(&price, &ceiling));
+            assert_eq!(bit, due, "{name}, scheme {scheme}: {price}, {ceiling}");
+        }
+    }
+}
