@@ -32,14 +32,14 @@
  *
  * Below n, m, q and p are the circuit's inputs, outputs, gates and charged gates. Limits: n is 2 to 4,096, m is 1 to q,
  * q is at least 1, and n+q is at most 65,535. Wires are numbered from 1: the inputs 1 to n, then the gates n+1 to n+q, of
- * which the last m are the outputs. A gate's operands a and b are wires: 1 <= a < b < the gate's own wire number. Lists
- * of tokens and of values are in the order of the wires.
+ * which the last m are the outputs. A gate's operands a and b are wires: 1 <= a < b < the gate's own wire number, also
+ * where its code uses only one of them. Lists of tokens and of values are in the order of the wires.
  */
 #ifndef WEIGHHARE_H
 #define WEIGHHARE_H
 
 /* The version of this header, and of the archive and the Rust crate that come with it. The archive itself holds none. */
-#define WEIGHHARE_VERSION "0.3.0"
+#define WEIGHHARE_VERSION "0.4.0"
 
 #include <stddef.h>
 #include <stdint.h>
@@ -79,17 +79,21 @@ enum {
 
 /*
  * Codes of gates. A code is a truth table: its bit 2u+v, bit 0 the lowest, is the gate's value for a=u and b=v. A charged
- * gate has rows in the material, a free one has none. Every other code is refused.
+ * gate has rows in the material, a free one has none. Every other code is refused: 0, 15 and all above 15.
  */
 enum {
     WEIGHHARE_NOR = 1,       /* charged */
     WEIGHHARE_LESS = 2,      /* charged: a < b, that is NOT a AND b */
+    WEIGHHARE_NOT_A = 3,     /* free: NOT a; b is not used */
     WEIGHHARE_GREATER = 4,   /* charged: a > b, that is a AND NOT b */
+    WEIGHHARE_NOT_B = 5,     /* free: NOT b; a is not used */
     WEIGHHARE_XOR = 6,       /* free */
     WEIGHHARE_NAND = 7,      /* charged */
     WEIGHHARE_AND = 8,       /* charged */
     WEIGHHARE_XNOR = 9,      /* free */
+    WEIGHHARE_COPY_B = 10,   /* free: b; a is not used */
     WEIGHHARE_AT_MOST = 11,  /* charged: a <= b, that is NOT a OR b */
+    WEIGHHARE_COPY_A = 12,   /* free: a; b is not used */
     WEIGHHARE_AT_LEAST = 13, /* charged: a >= b, that is a OR NOT b */
     WEIGHHARE_OR = 14        /* charged */
 };

@@ -31,18 +31,19 @@ static int words(void) {
 
 /* Each code that has a name gives what the name says for a=u and b=v, and is charged or free; no other code is taken. */
 static int codes(uint8_t u, uint8_t v) {
-    const uint8_t named[10][3] = {
-        {WEIGHHARE_NOR, !(u || v), 1},     {WEIGHHARE_LESS, u < v, 1},      {WEIGHHARE_GREATER, u > v, 1},
-        {WEIGHHARE_XOR, u != v, 0},        {WEIGHHARE_NAND, !(u && v), 1},  {WEIGHHARE_AND, u && v, 1},
-        {WEIGHHARE_XNOR, u == v, 0},       {WEIGHHARE_AT_MOST, u <= v, 1},  {WEIGHHARE_AT_LEAST, u >= v, 1},
-        {WEIGHHARE_OR, u || v, 1},
+    const uint8_t named[14][3] = {
+        {WEIGHHARE_NOR, !(u || v), 1},     {WEIGHHARE_LESS, u < v, 1},      {WEIGHHARE_NOT_A, !u, 0},
+        {WEIGHHARE_GREATER, u > v, 1},     {WEIGHHARE_NOT_B, !v, 0},        {WEIGHHARE_XOR, u != v, 0},
+        {WEIGHHARE_NAND, !(u && v), 1},    {WEIGHHARE_AND, u && v, 1},      {WEIGHHARE_XNOR, u == v, 0},
+        {WEIGHHARE_COPY_B, v, 0},          {WEIGHHARE_AT_MOST, u <= v, 1},  {WEIGHHARE_COPY_A, u, 0},
+        {WEIGHHARE_AT_LEAST, u >= v, 1},   {WEIGHHARE_OR, u || v, 1},
     };
     const uint8_t values[2] = {u, v};
     uint8_t circuit[15] = {0x43, 0x48, 0, 2, 0, 1, 0, 1, 0x43, 0x47, 0, 1, 0, 2, 0}, wires[3];
     uint64_t answer[4];
     unsigned code, next = 0;
     for (code = 0; code <= 255; code++) {
-        int has_name = next < 10 && named[next][0] == code;
+        int has_name = next < 14 && named[next][0] == code;
         circuit[14] = (uint8_t)code;
         if (weighhare_check(circuit, sizeof circuit, answer) != (has_name ? WEIGHHARE_DONE : WEIGHHARE_CODE)) break;
         if (!has_name) continue;

@@ -223,7 +223,7 @@ impl fmt::Display for Refusal {
 }
 
 const LIMITS: &str = "n from 2 to 4096, m from 1 to q, q at least 1, n+q at most 65535";
-const CODES: &str = "1, 2, 4, 7, 8, 11, 13, 14 (charged), 6, 9 (free)";
+const CODES: &str = "1, 2, 4, 7, 8, 11, 13, 14 (charged), 3, 5, 6, 9, 10, 12 (free)";
 const NOT_ITS_LENGTH: &str = "which is not the length for its scheme and the circuit";
 
 impl Error for Refusal {}
@@ -246,7 +246,8 @@ mod tests {
         (3, "the gate of wire 3 has operands that are not 1 <= a < b < 3"),
         (
             3,
-            "the gate of wire 3 has a code that is not one of 1, 2, 4, 7, 8, 11, 13, 14 (charged), 6, 9 (free)",
+            "the gate of wire 3 has a code that is not one of \
+             1, 2, 4, 7, 8, 11, 13, 14 (charged), 3, 5, 6, 9, 10, 12 (free)",
         ),
         (15, "the seed has 15 bytes, it needs 16"),
         (1, "the value list has 1 byte, not one for each input"),

@@ -38,6 +38,8 @@ fn of_a_circuit() {
     assert_eq!(check(&and_with(9, 0x48)), Some(Refusal::GateMark { wire: 3 }));
     assert_eq!(check(&and_with(11, 2)), Some(Refusal::Operands { wire: 3 }));
     assert_eq!(check(&and_with(14, 0)), Some(Refusal::Code { wire: 3 }));
+    assert_eq!(check(&and_with(14, 15)), Some(Refusal::Code { wire: 3 }));
+    assert_eq!(check(&and_with(14, 3)), None);
 }
 
 #[test]
@@ -158,11 +160,28 @@ fn of_a_gate_in_a_list() {
         for (a, b) in [(0, 1), (1, 1), (2, 1), (1, wire), (1, 65_535)] {
             assert_eq!(refusal(Gate { a, b, code: 8 }), Some(Refusal::Operands { wire }));
         }
-        for code in [0, 3, 5, 10, 12, 15, 16, 255] {
+        for code in [0, 15, 16, 19, 21, 26, 28, 255] {
             assert_eq!(refusal(Gate { a: 1, b: 2, code }), Some(Refusal::Code { wire }));
         }
         let both = Gate { a: 1, b: 1, code: 0 };
         assert_eq!(refusal(both), Some(Refusal::Operands { wire }), "6 before 7");
+    }
+}
+
+/// 3 and 12 do not use b, 5 and 10 do not use a, and 15 would use neither.
+#[test]
+fn of_an_operand_that_is_not_used() {
+    for code in [3, 12, 15] {
+        for b in [0, 1, 5, 65_535] {
+            let gates = gates_with(1, Gate { a: 1, b, code });
+            assert_eq!(gates_refusal(3, 2, &gates), Some(Refusal::Operands { wire: 5 }));
+        }
+    }
+    for code in [5, 10, 15] {
+        for a in [0, 4, 5, 65_535] {
+            let gates = gates_with(1, Gate { a, b: 4, code });
+            assert_eq!(gates_refusal(3, 2, &gates), Some(Refusal::Operands { wire: 5 }));
+        }
     }
 }
 
