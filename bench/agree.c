@@ -95,22 +95,37 @@ void agree_on(struct subject *s)
     }
 }
 
+/* So many calls with one bit of an argument changed. */
+static void agree_on_changed(struct subject *s, unsigned calls)
+{
+    for (unsigned i = 0; i < calls; i++) {
+        uint8_t scheme = (uint8_t)(1 + i % 3), flip = (uint8_t)(1u << random_below(8));
+        uint8_t *byte = &s->circuit[random_below(s->circuit_length)];
+        *byte ^= flip;
+        agree_on_garble(s, scheme);
+        *byte ^= flip;
+        run_garble(&workers[0], s, scheme);
+        byte = i % 4 ? &s->material[random_below(s->material_length)] : &s->circuit[random_below(s->circuit_length)];
+        *byte ^= flip;
+        s->material_length += i % 7 == 0;
+        agree_on_evaluate(s);
+        s->material_length -= i % 7 == 0;
+        *byte ^= flip;
+    }
+}
+
 void agree_on_damage(unsigned calls)
 {
     struct subject s = make_subject(150);
-    for (unsigned i = 0; i < calls; i++) {
-        uint8_t scheme = (uint8_t)(1 + i % 3), flip = (uint8_t)(1u << random_below(8));
-        uint8_t *byte = &s.circuit[random_below(s.circuit_length)];
-        *byte ^= flip;
-        agree_on_garble(&s, scheme);
-        *byte ^= flip;
-        run_garble(&workers[0], &s, scheme);
-        byte = i % 4 ? &s.material[random_below(s.material_length)] : &s.circuit[random_below(s.circuit_length)];
-        *byte ^= flip;
-        s.material_length += i % 7 == 0;
-        agree_on_evaluate(&s);
-        s.material_length -= i % 7 == 0;
-        *byte ^= flip;
-    }
+    agree_on_changed(&s, calls);
+    free_subject(&s);
+}
+
+void agree_on_one_operand(unsigned calls)
+{
+    struct subject s = make_subject(150);
+    use_one_operand(&s);
+    agree_on(&s);
+    agree_on_changed(&s, calls);
     free_subject(&s);
 }

@@ -21,10 +21,26 @@ static inline unsigned is_charged(unsigned code)
     return code < 16 && (0x6996u >> code & 1u);
 }
 
-/* Whether a code is free: 6, 9. */
+/* Whether a code is free: 3, 5, 6, 9, 10, 12. */
 static inline unsigned is_free(unsigned code)
 {
-    return code < 16 && (0x0240u >> code & 1u);
+    return code < 16 && (0x1668u >> code & 1u);
+}
+
+/* A free gate's value is pu ⊕ qv ⊕ c for a=u and b=v. p is 1 for 3, 6, 9, 12; q for 5, 6, 9, 10; c for 3, 5, 9. */
+static inline unsigned free_p(unsigned code)
+{
+    return 0x1248u >> code & 1u;
+}
+
+static inline unsigned free_q(unsigned code)
+{
+    return 0x0660u >> code & 1u;
+}
+
+static inline unsigned free_c(unsigned code)
+{
+    return 0x0228u >> code & 1u;
 }
 
 /* The rows of a charged gate. */

@@ -1,5 +1,6 @@
 /* One gate, garbled and evaluated by each scheme, over any block and any AES. To be included after `block`, its functions
  * and pi_1, pi_2, pi_4 are defined. A bit times a block is taken by a mask: colours are as good as random. */
+#include "files.h"
 
 /* R, and what doubling makes of it: doubling is linear, so the other tokens' doubles need not be worked out. */
 struct offset {
@@ -15,6 +16,18 @@ static inline struct offset offset_of(block r)
 static inline block xor3(block a, block b, block c)
 {
     return block_xor(block_xor(a, b), c);
+}
+
+/* A free gate's zero token: pXa ⊕ qXb ⊕ cR. */
+static inline block garble_free(const struct offset *o, unsigned code, block xa, block xb)
+{
+    return xor3(block_times(free_p(code), xa), block_times(free_q(code), xb), block_times(free_c(code), o->r));
+}
+
+/* A free gate, opened: the evaluator does without R. */
+static inline block open_free(unsigned code, block a, block b)
+{
+    return block_xor(block_times(free_p(code), a), block_times(free_q(code), b));
 }
 
 /* The cipher's input for each of the four rows, and the gate's value there: row 2c+d is that of the colours c and d. */

@@ -80,6 +80,7 @@ static void measure_all(unsigned rounds, unsigned first)
         subjects[size] = make_subject(sizes[size]);
         agree_on(&subjects[size]);
     }
+    agree_on_one_operand(600);
     for (unsigned round = 0; round < rounds; round++)
         for (int size = 0; size < SIZES; size++)
             measure(&subjects[size], times[size], round, (first + round) % worker_count);

@@ -79,6 +79,17 @@ struct subject make_subject(size_t q)
     return s;
 }
 
+void use_one_operand(struct subject *s)
+{
+    static const uint8_t codes[4] = {3, 5, 10, 12};
+    size_t free_gates = 0;
+    for (size_t i = 0; i < s->q; i++) {
+        uint8_t *code = s->circuit + 14 + 7 * i;
+        if ((*code == 6 || *code == 9) && free_gates++ % 2 == 0)
+            *code = codes[free_gates / 2 % 4];
+    }
+}
+
 void free_subject(struct subject *s)
 {
     free(s->circuit);

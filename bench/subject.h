@@ -31,6 +31,11 @@ struct subject {
 enum { INPUTS = 128, OUTPUTS = 128 };
 
 struct subject make_subject(size_t q);
+
+/* Turns every second free gate into one that uses one operand, of codes 3, 5, 10 and 12 by turns. What is measured has no
+ * such gate. */
+void use_one_operand(struct subject *s);
+
 void free_subject(struct subject *s);
 
 /* The operations on the subject; each ends the program if the worker refuses. `tokens` holds a token for each input: the

@@ -64,7 +64,7 @@ INLINE uint8_t *garble_gates(unsigned scheme, const uint8_t *circuit, const stru
         block xb = block_load(zeros + 16 * (number16(record + 4) - 1));
         block x;
         if (is_free(code))
-            x = xor3(xa, xb, block_times(code == 9, o->r));
+            x = garble_free(o, code, xa, xb);
         else
             at = garble_charged(scheme, seed, o, code, g, xa, xb, &x, at);
         block_store(zeros + 16 * (g - 1), x);
@@ -130,7 +130,7 @@ INLINE void evaluate_gates(unsigned scheme, const uint8_t *circuit, const struct
     for (size_t g = z->n + 1; g <= end; g++, record += 7) {
         block a = block_load(wires + 16 * (number16(record + 2) - 1));
         block b = block_load(wires + 16 * (number16(record + 4) - 1));
-        block x = block_xor(a, b);
+        block x = open_free(record[6], a, b);
         if (!is_free(record[6])) {
             x = scheme == 3 ? open_half(g, a, b, at + 4) : open_row(scheme, g, a, b, at + 4);
             at += step;
