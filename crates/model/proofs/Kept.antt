@@ -1,16 +1,17 @@
 -- What document 02 says of what was there before. Assumes nothing.
 use Prim.Native.Nat.{ℕ, zero, suc, _+_, _≤_, _<_}
 use native.Mathlib.Decide.{decLt}
+use native.Mathlib.Nat.{le-of-suc-le-suc, not-suc-le-zero}
 use native.Mathlib.Omega.{arith}
 use mathlib.Core.Path.{_≡_, refl, sym, ap, _∙_}
 use mathlib.Core.Bool.{Bool, true, false, cond, _||_, false≢true}
 use mathlib.Core.List.{List, [], _∷_, _++_}
 use borrow.Author.Tests.{le-leb}
 use lib.Dec.{T, eqb, leb, eqb→eq}
-use lib.ListN.{length, getD, drop, List·getD-eq-default}
+use lib.ListN.{length, getD, take, drop, List·getD-eq-default}
 use Rattle.model.specs.declared.Gate.{Gate}
 use Rattle.model.specs.Bytes.{from, tabulate}
-use Rattle.model.specs.Circuit.{Circuit, Kind, charged, free, refused, kinds, kindOf, value, charges, circuitOf, inputs, gates, gateAt, gateWire, wire, wires, gateValue, plainValues}
+use Rattle.model.specs.Circuit.{Circuit, Kind, charged, free, refused, kinds, kindOf, value, charges, codeAt, circuitOf, inputs, gates, gateAt, gateWire, wire, wires, gateValue, plainValues}
 use Rattle.model.specs.Aes.{Block, _⊕_, block, times}
 use Rattle.model.specs.Tokens.{Garbling, offset, inputZeros, freeZero, freeToken}
 use Rattle.model.specs.Scheme.{Site, Scheme, recordLength}
@@ -20,8 +21,8 @@ use Rattle.model.specs.HalfGates.{hash, halfA, halfB, rowG, rowE, halfZe
 use Rattle.model.specs.Garbling.{schemeOf, siteOf, zeroAt, zeroStep, zeroTokens}
 use Rattle.model.specs.Material.{recordOf, records, lastRecord, material}
 use Rattle.model.specs.Evaluation.{openAt, openStep, past, run, evaluate}
-use Rattle.model.specs.Refusals.{fine, isRefused, _then_, headVerdict, gateVerdict, recordVerdict, circuitVerdict}
-use Rattle.model.specs.Kept.{LeftRefused, ZeroPassedOn, TokenPassedOn, PassedOn, kinds01, kind01, kindValue, chargesBy, gateValueBy, gateVerdictBy, recordVerdictBy, circuitVerdictBy, halfABy, halfBBy, rowGBy, rowEBy, halfBy, schemeBy, zeroAtBy, zeroStepBy, zeroTokensBy, recordOfBy, recordsBy, lastRecordBy, materialBy, openStepBy, runBy, evaluateBy, SameBytes}
+use Rattle.model.specs.Refusals.{fine, isRefused, _then_, headVerdict, gateVerdict, recordVerdict, circuitVerdict, circuitSizes, rowStart, rowVerdict, materialVerdict}
+use Rattle.model.specs.Kept.{LeftRefused, ZeroPassedOn, TokenPassedOn, PassedOn, kinds01, kind01, kindValue, chargesBy, gateValueBy, gateVerdictBy, recordVerdictBy, circuitVerdictBy, rowVerdictBy, materialVerdictBy, halfABy, halfBBy, rowGBy, rowEBy, halfBy, schemeBy, zeroAtBy, zeroStepBy, zeroTokensBy, recordOfBy, recordsBy, lastRecordBy, materialBy, openStepBy, runBy, evaluateBy, SameBytes}
 use Rattle.model.proofs.Bits.{Bit, b0, b1, bit-of, bit-small}
 use Rattle.model.proofs.Codes.{value-bit}
 use Rattle.model.proofs.Lists.{agree, tabulate-length}
@@ -32,7 +33,7 @@ use Rattle.model.proofs.Accepted.{GateHolds, accepted-gate}
 use Rattle.model.proofs.Table.{every, at}
 use Rattle.model.proofs.Xor.{⊕-assoc, ⊕-zero}
 use Rattle.model.proofs.XorRules.{zero-⊕, ⊕-zero-right, times-0, times-1}
-use Rattle.model.proofs.Verdicts.{then-fine, refuse-fine, first-each, first-all}
+use Rattle.model.proofs.Verdicts.{then-fine, refuse-fine, first-each, first-all, first-same}
 
 -- ---- left refused
 
@@ -174,6 +175,27 @@ charges-same : (gs : List Gate) → Known gs → charges gs ≡ chargesBy kind01
 unfolding charges chargesBy
 charges-same [] h = refl
 charges-same (g ∷ gs) h = rw (same-kind (g .code) (h .0), charges-same gs (h .1))
+
+-- ---- what refuses a material
+
+known-take : (k : ℕ) (gs : List Gate) → Known gs → Known (take k gs)
+known-take zero gs h = tt
+known-take (suc k) [] h = tt
+known-take (suc k) (g ∷ gs) h = (h .0, known-take k gs (h .1))
+
+known-at : (gs : List Gate) (d : Gate) (k : ℕ) → Known gs → k < length gs → isRefused (kind01 (getD gs k d .code)) ≡ false
+known-at [] d k h l = absurd (not-suc-le-zero l)
+known-at (g ∷ gs) d zero h l = h .0
+known-at (g ∷ gs) d (suc k) h l = known-at gs d k (h .1) (le-of-suc-le-suc l)
+
+module _ (c : Circuit) (h : Known (c .gates)) (s : List ℕ) where
+  row-same : (k : ℕ) → k < length (c .gates) → rowVerdict c s k ≡ rowVerdictBy kind01 c s k
+  unfolding rowVerdict rowVerdictBy rowStart codeAt
+  row-same k l = rw (same-kind (codeAt c k) (known-at (c .gates) _ k h l), charges-same (take k (c .gates)) (known-take k (c .gates) h))
+
+  refusals-same : materialVerdict c s ≡ materialVerdictBy kind01 c s
+  unfolding materialVerdict materialVerdictBy circuitSizes
+  refusals-same = rw (charges-same (c .gates) h, first-same (rowVerdict c s) (rowVerdictBy kind01 c s) (length (c .gates)) row-same)
 
 -- ---- values
 
@@ -330,6 +352,7 @@ module _ (c : List ℕ) (e : circuitVerdictBy kind01 c ≡ fine) where
     values = λ vs b. values-same (circuitOf c .gates) vs all-known b;
     zeros = λ γ is-c. zero-tokens-same γ (rw is-c all-known);
     rows = λ γ is-c. material-same γ (rw is-c all-known);
+    refusals = λ s. refusals-same (circuitOf c) all-known s;
     tokens = λ ts s. run-same _ (circuitOf c .gates) (drop 9 s) ts all-known
         ∙ sym (by-scheme (λ S. runBy kind01 S (circuitOf c .gates) (drop 9 s) ts) (run-half (circuitOf c .gates) (drop 9 s) ts) (getD s 2 0));
   }

@@ -90,6 +90,12 @@ module _ (f : ℕ → Verdict) where
   first-all zero h = refl
   first-all (suc q) h = rw (first-all q (λ k l. h k (omega arith)), h q (omega arith))
 
+-- searches that find the same at each index
+pub first-same : (f g : ℕ → Verdict) (q : ℕ) → ((k : ℕ) → k < q → f k ≡ g k) → firstOf f q ≡ firstOf g q
+unfolding firstOf
+first-same f g zero h = refl
+first-same f g (suc q) h = rw (first-same f g q (λ k l. h k (omega arith)), h q (omega arith))
+
 -- ---- what an answer tells of its verdict
 
 pub record Given {A : Type 0} (v : Verdict) (a b : A) : Type 0 where

@@ -5,10 +5,10 @@ use mathlib.Core.Bool.{not, cond, _&&_, _||_}
 use mathlib.Core.List.{List, [], _∷_, _++_, map}
 use lib.Bits.{differ}
 use lib.Dec.{eqb, leb}
-use lib.ListN.{length, getD, drop}
+use lib.ListN.{length, getD, take, drop}
 use Rattle.model.specs.declared.Gate.{Gate}
 use Rattle.model.specs.Bytes.{tabulate, two}
-use Rattle.model.specs.Circuit.{Circuit, Kind, charged, free, refused, circuitOf, kindOf, charge, charges, markAt, inputs, gates, recordAt, gateAt, operandsHold, gateWire, wire, wires, plainValues}
+use Rattle.model.specs.Circuit.{Circuit, Kind, charged, free, refused, circuitOf, kindOf, charge, charges, codeAt, markAt, inputs, gates, recordAt, gateAt, operandsHold, gateWire, wire, wires, plainValues}
 use Rattle.model.specs.Aes.{Block, _⊕_, block, times}
 use Rattle.model.specs.Tokens.{Garbling, colour, offset, inputZeros, freeZero}
 use Rattle.model.specs.Scheme.{Site, Scheme}
@@ -16,9 +16,9 @@ use Rattle.model.specs.Gax.{dualKey, gax}
 use Rattle.model.specs.Gaxr.{gaxr}
 use Rattle.model.specs.HalfGates.{hash, alpha, beta, gamma, generatorTweak, evaluatorTweak, joined}
 use Rattle.model.specs.Garbling.{own, schemeOf, siteOf, zeroStep, zeroTokens}
-use Rattle.model.specs.Material.{joinBlocks, header, material}
+use Rattle.model.specs.Material.{joinBlocks, lastStart, header, material}
 use Rattle.model.specs.Evaluation.{cut, openAt, openStep, past, run, evaluate}
-use Rattle.model.specs.Refusals.{Verdict, fine, refuse, _then_, firstOf, isRefused, headVerdict, circuitVerdict}
+use Rattle.model.specs.Refusals.{Verdict, fine, refuse, _then_, firstOf, isRefused, isCharged, headVerdict, circuitVerdict, fileVerdict, rowRecordAt, lastVerdict, materialVerdict}
 
 -- ==== Job 2, gates that use one operand
 
@@ -93,6 +93,17 @@ module _ (K : ℕ → Kind) where
   unfoldable pub circuitVerdictBy : List ℕ → Verdict
   circuitVerdictBy s = headVerdict s then firstOf (recordVerdictBy s (inputs s)) (gates s)
 
+  -- Refusals: 12 to 18
+  unfoldable pub rowVerdictBy : Circuit → List ℕ → ℕ → Verdict
+  rowVerdictBy c s k =
+      refuse (isCharged (K (codeAt c k)) && not (rowRecordAt s (lastStart (getD s 2 0) (chargesBy (take k (c .gates)))) (gateWire (c .n) k))) 17 (gateWire (c .n) k)
+
+  unfoldable pub materialVerdictBy : Circuit → List ℕ → Verdict
+  materialVerdictBy c s =
+      fileVerdict (record { n = c .n; m = length (c .outputs); q = length (c .gates); p = chargesBy (c .gates) }) s
+      then firstOf (rowVerdictBy c s) (length (c .gates))
+      then lastVerdict s (lastStart (getD s 2 0) (chargesBy (c .gates))) (length (c .outputs))
+
   -- HalfGates: α, β and γ
   unfoldable pub halfABy : Site → Block
   halfABy s = s .Xa ⊕ times (alpha (K (s .code))) (s .R)
@@ -159,11 +170,13 @@ module _ (K : ℕ → Kind) where
   evaluateBy c ts s = runBy (schemeBy (getD s 2 0)) (c .gates) (drop 9 s) ts
 
 -- A circuit c that 01 accepts, `circuitVerdictBy kind01 c ≡ fine`, is accepted, and gets what 01's table gives: p, and with it every length and
--- every count of calls; the value of each wire; the zero tokens and the material of every garbling of it; and the tokens evaluated over any material.
+-- every count of calls; the value of each wire; the zero tokens and the material of every garbling of it; what refuses any material, and the tokens
+-- evaluated over it.
 pub record SameBytes (c : List ℕ) : Type 0 where
   pub accepted : circuitVerdict c ≡ fine
   pub as-many : charges (circuitOf c .gates) ≡ chargesBy kind01 (circuitOf c .gates)
   pub values : (vs : List ℕ) → ((i : ℕ) → getD vs i 0 ≤ 1) → plainValues (circuitOf c) vs ≡ wires (gateValueBy kind01) (circuitOf c .gates) vs
   pub zeros : (γ : Garbling) → γ .circuit ≡ circuitOf c → zeroTokens γ ≡ zeroTokensBy kind01 γ
   pub rows : (γ : Garbling) → γ .circuit ≡ circuitOf c → material γ ≡ materialBy kind01 γ
+  pub refusals : (s : List ℕ) → materialVerdict (circuitOf c) s ≡ materialVerdictBy kind01 (circuitOf c) s
   pub tokens : (ts : List Block) (s : List ℕ) → evaluate (circuitOf c) ts s ≡ evaluateBy kind01 (circuitOf c) ts s
