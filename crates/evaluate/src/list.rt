@@ -21,7 +21,6 @@ use aes::fixed_schedule;
 use aes::t_tables;
 use buffer::copy_front;
 use circuit::code::code_charge;
-use circuit::code::used_charge;
 use circuit::gates::GateRead;
 use circuit::gates::read_gate;
 use circuit::header::sizes_hold;
@@ -283,7 +282,7 @@ pub fn write_next(
     let stride = s.stride;
     let calls = s.calls;
     let scheme = material[2];
-    if used_charge(g.code) == 0 {
+    if code_charge(g.code) == 0 {
         write_free(z.n, k, g, wires);
         return token_written(k, z, s.here, stride, calls);
     }
