@@ -4,22 +4,22 @@ use Prim.Native.Nat.{ℕ, zero, suc, _+_, _*_, _/_, _%_, _^_, _<_, _≤_}
 use native.Mathlib.Decide.{decLt}
 use native.Mathlib.Nat.{mul-le-mul}
 use native.Mathlib.Omega.{arith}
-use mathlib.Core.Path.{_≡_, refl, sym, ap, _∙_}
+use mathlib.Core.Path.{_≡_, refl, sym, _∙_}
 use mathlib.Core.Bool.{Bool, true, false, _||_, false≢true}
-use lib.Dec.{T, eqb, leb, leb→le}
-use lib.ListN.{List·getD-eq-default}
+use borrow.Author.Tests.{leb-true}
+use lib.Dec.{eqb, leb}
 use Rattle.model.specs.declared.Truth.{Truth}
 use Rattle.model.specs.declared.Kind as Kinds
 use Rattle.model.specs.Bytes.{tabulate}
 use Rattle.model.specs.Circuit.{Kind, charged, free, refused, kinds, kindOf, charge}
 use Rattle.model.specs.Refusals.{isRefused}
+use Rattle.model.proofs.Codes.{past-table, in-table}
 use Rattle.model.proofs.Lists.{agree}
-use Rattle.model.proofs.Table.{every, at}
 use Rattle.circuit.specs.Answers.{meaning, TakesIs, apart, bitsApart, bitsFrom, kindBit}
 
 past-codes : (code : ℕ) → 15 < code → kindOf code ≡ refused
 unfolding kindOf kinds
-past-codes code h = List·getD-eq-default kinds refused {n = code} (omega arith)
+past-codes code h = past-table kinds code (omega arith)
 
 -- ---- matched_kind
 
@@ -91,21 +91,13 @@ pub ruleset bits-cases = (bits-charged, bits-free, bits-refused)
 
 -- ---- code_bits, four_bits and all_bits
 
-few : ℕ → ℕ → Bool
-few code x = leb (bitsApart (kindOf code)) 0x1000100010001
-
-all-few : T (every few 0 (tabulate 16 (λ i. i)))
-unfolding few kindOf kinds
-all-few = tt
-
 -- each of the four is at most 1
 bits-few : (code : ℕ) → bitsApart (kindOf code) ≤ 0x1000100010001
-unfolding few
 bits-few code = go (decLt 15 code)
   where
     go : Dec (15 < code) → bitsApart (kindOf code) ≤ 0x1000100010001
     go (Dec.yes h) = rw (past-codes code h) (omega arith)
-    go (Dec.no h) = leb→le _ _ (at few (tabulate 16 (λ i. i)) all-few code (omega arith))
+    go (Dec.no h) = leb-true _ _ (agree true (λ k. leb (bitsApart (kindOf k)) 0x1000100010001) (λ k. true) (unfold kindOf kinds in refl) code (omega arith))
 
 module _ (code : ℕ) (k : Kinds.Kind) (is-k : meaning k ≡ kindOf code) (r : ℕ) (is-r : r ≡ bitsApart (meaning k)) where
   pub bits-are : r ≡ bitsApart (kindOf code)
@@ -143,11 +135,8 @@ bit-read i code all l h e = rw e (bit-places i code l h)
 -- ---- what the four bits of a code that is not refused say of it
 
 pub code-known : (code : ℕ) → isRefused (kindOf code) ≡ false → code ≤ 15
-code-known code known = go (decLt 15 code)
-  where
-    go : Dec (15 < code) → code ≤ 15
-    go (Dec.yes l) = absurd (false≢true (sym known ∙ ap isRefused (past-codes code l)))
-    go (Dec.no l) = omega arith
+unfolding kindOf kinds
+code-known code known = let h = in-table kinds code known in omega arith
 
 -- and as another function found it
 pub code-found : (code : ℕ) (b : Bool) → b ≡ isRefused (kindOf code) → b ≡ false → code ≤ 15
@@ -162,17 +151,17 @@ pub takes-fit : (p q : ℕ) → p ≤ 1 → q ≤ 1 → p * q < 256
 takes-fit p q lp lq = omega (arith, mul-le-mul lp lq)
 
 -- a free code takes one operand at least, computed over the sixteen
-takes : ℕ → ℕ → Bool
-takes code x = isRefused (kindOf code) || eqb (charge (kindOf code)) 1 || leb 1 (kindBit 1 (kindOf code) + kindBit 2 (kindOf code))
+takes : ℕ → Bool
+takes code = isRefused (kindOf code) || eqb (charge (kindOf code)) 1 || leb 1 (kindBit 1 (kindOf code) + kindBit 2 (kindOf code))
 
-all-take : T (every takes 0 (tabulate 16 (λ i. i)))
+all-take : tabulate 16 takes ≡ tabulate 16 (λ code. true)
 unfolding takes kindOf kinds
-all-take = tt
+all-take = refl
 
 module _ (code : ℕ) (known : isRefused (kindOf code) ≡ false) (none : charge (kindOf code) ≡ 0) where
   takes-one : 1 ≤ kindBit 1 (kindOf code) + kindBit 2 (kindOf code)
   unfolding takes
-  takes-one = leb→le _ _ (rw (known, none) at (at takes (tabulate 16 (λ i. i)) all-take code (omega (arith, code-known code known))))
+  takes-one = leb-true _ _ (rw (known, none) at (agree true takes (λ k. true) all-take code (code-known code known)))
 
   pub takes-free : (p q : ℕ) → p ≡ kindBit 1 (kindOf code) → p ≤ 1 → q ≡ kindBit 2 (kindOf code) → q ≤ 1 → TakesIs (kindOf code) p (p * q)
   takes-free p q is-p lp is-q lq = record {

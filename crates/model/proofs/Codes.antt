@@ -1,12 +1,16 @@
 -- What each kind of code says of the gate's values, computed once over the table of kinds. Assumes nothing.
-use Prim.Native.Nat.{ℕ, zero, suc, _+_, _*_, _-_}
+use Prim.Native.Nat.{ℕ, zero, suc, _+_, _*_, _-_, _≤_, _<_}
+use native.Mathlib.Decide.{decLt}
 use native.Mathlib.Nat.{add-zero, zero-add, add-suc, suc-add}
-use mathlib.Core.Path.{_≡_, refl, sym, _∙_}
+use native.Mathlib.Omega.{arith}
+use mathlib.Core.Path.{_≡_, refl, sym, ap, _∙_}
+use mathlib.Core.Bool.{false, false≢true}
 use mathlib.Core.List.{List, [], _∷_}
 use lib.Bits.{differ}
-use lib.ListN.{getD, drop}
+use lib.ListN.{length, getD, drop, List·getD-eq-default}
 use Rattle.model.specs.Circuit.{Kind, charged, free, refused, kinds, kindOf, value}
 use Rattle.model.specs.HalfGates.{alpha, beta, gamma}
+use Rattle.model.specs.Refusals.{isRefused}
 use Rattle.model.proofs.Bits.{Bit, b0, b1, bit-mod, bit-other}
 
 pub value-bit : (code u v : ℕ) → Bit (value code u v)
@@ -84,6 +88,18 @@ free-value code p q c u v e = free-table-at (rw e at (code-means code))
 pub data Used : Kind → Type 0 where
   used-charged : {u v x : ℕ} → Used (charged u v x)
   used-free : {p q c : ℕ} → Used (free p q c)
+
+-- ---- a code past a table of kinds has none
+
+pub past-table : (ks : List Kind) (code : ℕ) → length ks ≤ code → getD ks code refused ≡ refused
+past-table ks code h = List·getD-eq-default ks refused {n = code} h
+
+pub in-table : (ks : List Kind) (code : ℕ) → isRefused (getD ks code refused) ≡ false → code < length ks
+in-table ks code known = go (decLt code (length ks))
+  where
+    go : Dec (code < length ks) → code < length ks
+    go (Dec.yes h) = h
+    go (Dec.no h) = absurd (false≢true (sym known ∙ ap isRefused (past-table ks code (omega arith))))
 
 -- ---- charged codes by their α, β and γ
 

@@ -4,11 +4,11 @@ use native.Mathlib.Decide.{decLt}
 use native.Mathlib.Nat.{le-of-suc-le-suc, not-suc-le-zero}
 use native.Mathlib.Omega.{arith}
 use mathlib.Core.Path.{_≡_, refl, sym, ap, _∙_}
-use mathlib.Core.Bool.{Bool, true, false, cond, _||_, false≢true}
+use mathlib.Core.Bool.{Bool, true, false, cond, _||_}
 use mathlib.Core.List.{List, [], _∷_, _++_}
-use borrow.Author.Tests.{le-leb}
-use lib.Dec.{T, eqb, leb, eqb→eq}
-use lib.ListN.{length, getD, take, drop, List·getD-eq-default}
+use borrow.Author.Tests.{le-leb, eqb-true}
+use lib.Dec.{eqb, leb}
+use lib.ListN.{length, getD, take, drop}
 use Rattle.model.specs.declared.Gate.{Gate}
 use Rattle.model.specs.Bytes.{from, tabulate}
 use Rattle.model.specs.Circuit.{Circuit, Kind, charged, free, refused, kinds, kindOf, value, charges, codeAt, circuitOf, inputs, gates, gateAt, gateWire, wire, wires, gateValue, plainValues}
@@ -24,13 +24,12 @@ use Rattle.model.specs.Evaluation.{openAt, openStep, past, run, evaluate
 use Rattle.model.specs.Refusals.{fine, isRefused, _then_, headVerdict, gateVerdict, recordVerdict, circuitVerdict, circuitSizes, rowStart, rowVerdict, materialVerdict}
 use Rattle.model.specs.Kept.{LeftRefused, ZeroPassedOn, TokenPassedOn, PassedOn, kinds01, kind01, kindValue, chargesBy, gateValueBy, gateVerdictBy, recordVerdictBy, circuitVerdictBy, rowVerdictBy, materialVerdictBy, halfABy, halfBBy, rowGBy, rowEBy, halfBy, schemeBy, zeroAtBy, zeroStepBy, zeroTokensBy, recordOfBy, recordsBy, lastRecordBy, materialBy, openStepBy, runBy, evaluateBy, SameBytes}
 use Rattle.model.proofs.Bits.{Bit, b0, b1, bit-of, bit-small}
-use Rattle.model.proofs.Codes.{value-bit}
+use Rattle.model.proofs.Codes.{value-bit, past-table, in-table}
 use Rattle.model.proofs.Lists.{agree, tabulate-length}
 use Rattle.model.proofs.Blocks.{Blocks, blocks-wide, cut-blocks}
 use Rattle.model.proofs.Schemes.{scheme-sound}
 use Rattle.model.proofs.Lengths.{input-zeros-blocks, zeros-blocks, run-blocks}
 use Rattle.model.proofs.Accepted.{GateHolds, accepted-gate}
-use Rattle.model.proofs.Table.{every, at}
 use Rattle.model.proofs.Xor.{⊕-assoc, ⊕-zero}
 use Rattle.model.proofs.XorRules.{zero-⊕, ⊕-zero-right, times-0, times-1}
 use Rattle.model.proofs.Verdicts.{then-fine, refuse-fine, first-each, first-all, first-same}
@@ -40,19 +39,15 @@ use Rattle.model.proofs.Verdicts.{then-fine, refuse-fine, first-each, f
 pub left-refused : LeftRefused
 left-refused code = go (decLt 15 code)
   where
-    listed : code ≤ 15 → isRefused (kindOf code) ≡ (eqb code 0 || leb 15 code)
-    listed h = agree true (λ k. isRefused (kindOf k)) (λ k. eqb k 0 || leb 15 k) (unfold kindOf kinds in refl) code h
-
-    above : 15 < code → isRefused (kindOf code) ≡ true
-    above h = unfold kindOf kinds in (ap isRefused (List·getD-eq-default kinds refused {n = code} (omega arith)))
+    either : (b : Bool) → (b || true) ≡ true
+    either true = refl
+    either false = refl
 
     go : Dec (15 < code) → isRefused (kindOf code) ≡ (eqb code 0 || leb 15 code)
-    go (Dec.yes h) = above h ∙ sym (ap (eqb code 0 ||_) (le-leb 15 code (omega arith)) ∙ either (eqb code 0))
-      where
-        either : (b : Bool) → (b || true) ≡ true
-        either true = refl
-        either false = refl
-    go (Dec.no h) = listed (omega arith)
+    go (Dec.yes h) =
+        let above : kindOf code ≡ refused = unfold kindOf kinds in (past-table kinds code (omega arith)) in
+        ap isRefused above ∙ sym (ap (eqb code 0 ||_) (le-leb 15 code (omega arith)) ∙ either (eqb code 0))
+    go (Dec.no h) = agree true (λ k. isRefused (kindOf k)) (λ k. eqb k 0 || leb 15 k) (unfold kindOf kinds in refl) code (omega arith)
 
 -- ---- passed on
 
@@ -128,43 +123,30 @@ agreed-right : (code : ℕ) → code ≤ 15 → agreed code ≡ kind01 code
 unfolding agreed kind01 kinds01 kindOf kinds
 agreed-right code h = agree refused agreed kind01 refl code h
 
-past-01 : (code : ℕ) → 15 < code → kind01 code ≡ refused
-unfolding kind01 kinds01
-past-01 code h = List·getD-eq-default kinds01 refused {n = code} (omega arith)
-
 module _ (code : ℕ) (known : isRefused (kind01 code) ≡ false) where
-  in-table : code ≤ 15
-  in-table = go (decLt 15 code)
-    where
-      go : Dec (15 < code) → code ≤ 15
-      go (Dec.yes l) = absurd (false≢true (sym known ∙ ap isRefused (past-01 code l)))
-      go (Dec.no l) = omega arith
+  listed : code ≤ 15
+  unfolding kind01 kinds01
+  listed = let h = in-table kinds01 code known in omega arith
 
   same-kind : kind01 code ≡ kindOf code
   unfolding agreed
-  same-kind = sym (agreed-right code in-table) ∙ rw known
+  same-kind = sym (agreed-right code listed) ∙ rw known
 
 -- the value that 01's kind of a code says is the code's own
 says : ℕ → ℕ → ℕ → Bool
 says u v code = isRefused (kind01 code) || eqb (kindValue (kind01 code) u v) (value code u v)
 
-abbrev AllSay : ℕ → ℕ → Type 0
-AllSay u v = T (every (λ code x. says u v code) 0 (tabulate 16 (λ i. i)))
-
-all-say : AllSay 0 0 × AllSay 0 1 × AllSay 1 0 × AllSay 1 1
+all-say : {u v : ℕ} → Bit u → Bit v → tabulate 16 (says u v) ≡ tabulate 16 (λ code. true)
 unfolding says kind01 kinds01 kindValue value
-all-say = (tt, tt, tt, tt)
+all-say b0 b0 = refl
+all-say b0 b1 = refl
+all-say b1 b0 = refl
+all-say b1 b1 = refl
 
-module _ (code : ℕ) (known : isRefused (kind01 code) ≡ false) where
-  said : (u v : ℕ) → AllSay u v → kindValue (kind01 code) u v ≡ value code u v
-  unfolding says
-  said u v t = eqb→eq _ _ (rw known at (at (λ k x. says u v k) (tabulate 16 (λ i. i)) t code (omega (arith, in-table code known))))
-
-  kind-value : {u v : ℕ} → Bit u → Bit v → kindValue (kind01 code) u v ≡ value code u v
-  kind-value b0 b0 = said 0 0 (all-say .0)
-  kind-value b0 b1 = said 0 1 (all-say .1)
-  kind-value b1 b0 = said 1 0 (all-say .2)
-  kind-value b1 b1 = said 1 1 (all-say .3)
+kind-value : (code : ℕ) → isRefused (kind01 code) ≡ false → (u v : ℕ) → Bit u → Bit v → kindValue (kind01 code) u v ≡ value code u v
+unfolding says
+kind-value code known u v bu bv =
+    eqb-true _ _ (rw known at (agree true (says u v) (λ k. true) (all-say bu bv) code (listed code known)))
 
 -- every gate's code has a kind in 01
 abbrev Known : List Gate → Type 0
@@ -214,7 +196,7 @@ values-same [] vs h b = refl
 values-same (g ∷ gs) vs h b =
     let u = wire 0 vs (g .a .0) in
     let v = wire 0 vs (g .b .0) in
-    rw (kind-value (g .code) (h .0) (bit-of u (b _)) (bit-of v (b _)))
+    rw (kind-value (g .code) (h .0) u v (bit-of u (b _)) (bit-of v (b _)))
     (values-same gs (vs ++ (value (g .code) u v ∷ [])) (h .1) (bits-snoc vs _ b (bit-small (value-bit (g .code) u v))))
 
 -- ---- zero tokens and records
