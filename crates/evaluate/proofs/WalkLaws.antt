@@ -21,7 +21,7 @@ use Rattle.model.specs.Scheme.{Scheme, recordLength}
 use Rattle.model.specs.Garbling.{schemeOf}
 use Rattle.model.specs.Tokens.{freeToken}
 use Rattle.model.specs.Material.{joinBlocks, lastStart, materialLength}
-use Rattle.model.specs.Evaluation.{cut, openAt, openStep, run, evaluate, evaluateBytes, tokenAt}
+use Rattle.model.specs.Evaluation.{cut, openAt, openStep, openGates, evaluate, evaluateBytes, tokenAt}
 use Rattle.model.specs.Calls.{evaluateAsks, evaluateCallsAt, evaluateCalls}
 use Rattle.model.specs.Operations.{evaluateCallsOf}
 use Rattle.model.specs.Refusals.{isRefused}
@@ -37,8 +37,8 @@ use Rattle.model.proofs.Circuits.{charge-le, charges-le}
 use Rattle.model.proofs.Places.{length-last, start-first, start-next, record-fits}
 use Rattle.model.proofs.Calls.{asked-few, evaluate-calls-at, evaluate-calls-all, evaluate-calls-snoc}
 use Rattle.model.proofs.Gates.{open-at-wide}
-use Rattle.model.proofs.Lengths.{run-blocks}
-use Rattle.model.proofs.OneMore.{run-snoc}
+use Rattle.model.proofs.Lengths.{opened-blocks}
+use Rattle.model.proofs.OneMore.{opened-snoc}
 use Rattle.model.proofs.Schemes.{scheme-sound}
 use Rattle.circuit.specs.Answers.{TakesIs}
 use Rattle.scheme.specs.declared.OpenedGate.{OpenedGate}
@@ -235,13 +235,13 @@ pub ruleset step-cases = (step-record, step-small, step-operands, step-known, st
 tokens-blocks : (c s : List ℕ) (k : ℕ) {n : ℕ} {ts : List Block} → Blocks n ts → Blocks (n + k) (tokensTo c s ts k)
 unfolding tokensTo
 tokens-blocks c s k {n} r =
-    rw (tabulate-length k (gateAt c)) at (run-blocks (S s) (scheme-sound (getD s 2 0)) (tabulate k (gateAt c)) (drop 9 s) r)
+    rw (tabulate-length k (gateAt c)) at (opened-blocks (S s) (scheme-sound (getD s 2 0)) (tabulate k (gateAt c)) (drop 9 s) r)
 
 tokens-more : (c s : List ℕ) (ts : List Block) (k : ℕ)
     → tokensTo c s ts (suc k) ≡ tokensTo c s ts k ++ (openStep (S s) (drop (lastStart (getD s 2 0) (charges (tabulate k (gateAt c)))) s) (tokensTo c s ts k) (gateAt c k) ∷ [])
 unfolding tokensTo lastStart
 tokens-more c s ts k =
-    rw (tabulate-snoc k (gateAt c), run-snoc, drop-drop (charges (tabulate k (gateAt c)) * recordLength (S s)) 9 s)
+    rw (tabulate-snoc k (gateAt c), opened-snoc, drop-drop (charges (tabulate k (gateAt c)) * recordLength (S s)) 9 s)
 
 -- the first n blocks of a buffer stand at its front
 front : (n : ℕ) (o : List ℕ) → 16 * n ≤ length o → o ≡ over (joinBlocks (cut n o)) o
@@ -262,7 +262,7 @@ module _ (c s : List ℕ) (n q : ℕ) (o : List ℕ) (start : WalkStart c s n q 
   walk-scheme = omega (arith, start .whole)
 
   pub walk-start : (at : ℕ) → at ≡ 9 → Walking c s n q o 0 at 0 o
-  unfolding tokensTo run charges evaluateCalls
+  unfolding tokensTo openGates charges evaluateCalls
   walk-start at e = record {
     within = omega arith;
     same-length = refl;

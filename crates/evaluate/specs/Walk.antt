@@ -11,7 +11,7 @@ use Rattle.model.specs.Aes.{Block}
 use Rattle.model.specs.Scheme.{Scheme, recordLength}
 use Rattle.model.specs.Garbling.{Known, schemeOf}
 use Rattle.model.specs.Material.{joinBlocks, lastStart, materialLength}
-use Rattle.model.specs.Evaluation.{cut, openAt, run, evaluate, evaluateBytes, tokenAt}
+use Rattle.model.specs.Evaluation.{cut, openAt, openGates, evaluate, evaluateBytes, tokenAt}
 use Rattle.model.specs.Calls.{evaluateCallsAt, evaluateCalls}
 use Rattle.model.specs.Operations.{evaluateCallsOf}
 use Rattle.model.specs.Refusals.{fine, isRefused, circuitVerdict}
@@ -82,7 +82,7 @@ S s = schemeOf (getD s 2 0)
 
 -- the tokens after k gates, from those of the inputs
 unfoldable pub tokensTo : List ℕ → List ℕ → List Block → ℕ → List Block
-tokensTo c s ts k = run (S s) (tabulate k (gateAt c)) (drop 9 s) ts
+tokensTo c s ts k = openGates (S s) (tabulate k (gateAt c)) (drop 9 s) ts
 
 -- d is the buffer after k gates of q and so many calls of π, and o at the start, whose first n blocks are the inputs' tokens
 pub record Walking (c s : List ℕ) (n q : ℕ) (o : List ℕ) (k at calls : ℕ) (d : List ℕ) : Type 0 where

@@ -19,7 +19,7 @@ use Rattle.model.specs.Gaxr.{reducedZero, gaxr}
 use Rattle.model.specs.HalfGates.{halfA, halfB, rowG, rowE, joined, halfZero, half}
 use Rattle.model.specs.Garbling.{schemeOf, own, siteOf, zeroStep}
 use Rattle.model.specs.Material.{materialLength}
-use Rattle.model.specs.Evaluation.{openStep, past, run}
+use Rattle.model.specs.Evaluation.{openStep, past, openGates}
 use Rattle.model.specs.Calls.{Call, sealing, hashing, sealingAt, sealings, hashings, garbleAsks, sealingHeld, hashingsHeld, evaluateAsks, garbleCallsAt, garbleCalls, evaluateCallsAt, evaluateCalls}
 use Rattle.model.specs.Operations.{made, garbleMade}
 use Rattle.model.proofs.Bits.{Bit, b0, b1}
@@ -113,10 +113,10 @@ garble-calls-snoc γ [] g xs = omega arith
 garble-calls-snoc γ (x ∷ gs) g xs = omega (arith, garble-calls-snoc γ gs g (xs ++ (zeroStep γ xs x ∷ [])))
 
 pub evaluate-calls-snoc : (k : ℕ) (gs : List Gate) (g : Gate) (bs : List ℕ) (ts : List Block)
-    → let us = run (schemeOf k) gs bs ts in
+    → let us = openGates (schemeOf k) gs bs ts in
     evaluateCalls k (gs ++ (g ∷ [])) bs ts
     ≡ evaluateCalls k gs bs ts + evaluateCallsAt k (kindOf (g .code)) (own us) (wire (block 0) us (g .a .0)) (wire (block 0) us (g .b .0))
-unfolding evaluateCalls run
+unfolding evaluateCalls openGates
 evaluate-calls-snoc k [] g bs ts = omega arith
 evaluate-calls-snoc k (x ∷ gs) g bs ts =
     omega (arith, evaluate-calls-snoc k gs g (past (schemeOf k) (kindOf (x .code)) bs) (ts ++ (openStep (schemeOf k) bs ts x ∷ [])))

@@ -12,7 +12,7 @@ use Rattle.model.specs.Aes.{Block, _⊕_, block}
 use Rattle.model.specs.Tokens.{Garbling, colour, offset, inputZeros, oneToken}
 use Rattle.model.specs.Garbling.{schemeOf, siteOf, zeroStep, zeroTokens, inputOnes}
 use Rattle.model.specs.Material.{header, recordOf, records, lastRecord, material}
-use Rattle.model.specs.Evaluation.{encode, openStep, run, evaluate, decodeWith}
+use Rattle.model.specs.Evaluation.{encode, openStep, openGates, evaluate, decodeWith}
 use Rattle.model.proofs.Bits.{Bit, b0, b1, bit-of}
 use Rattle.model.proofs.Circuits.{wires-length}
 use Rattle.model.proofs.Tokens.{Offset, offset-is, seedBlock-length, token-zero, token-one}
@@ -62,8 +62,8 @@ module _ (γ : Garbling) where
   -- so all wires do: the one induction over the circuit
   pub gates-keep : {w : ℕ} {gs : List Gate} → GatesHold w gs → {vs : List ℕ} {xs ts : List Block} → AllHold (offset γ) vs xs ts
       → w ≡ suc (length vs) → (rest : List ℕ)
-      → AllHold (offset γ) (wires gateValue gs vs) (wires (zeroStep γ) gs xs) (run (schemeOf (γ .scheme)) gs (records γ gs xs ++ rest) ts)
-  unfolding wires run records
+      → AllHold (offset γ) (wires gateValue gs vs) (wires (zeroStep γ) gs xs) (openGates (schemeOf (γ .scheme)) gs (records γ gs xs ++ rest) ts)
+  unfolding wires openGates records
   gates-keep no-gate l e rest = l
   gates-keep (gate {g = g} {gs} h f) {vs} {xs} {ts} l e rest =
       let m = records γ gs (xs ++ (zeroStep γ xs g ∷ [])) ++ rest in

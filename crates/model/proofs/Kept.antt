@@ -20,15 +20,15 @@ use Rattle.model.specs.Gaxr.{gaxr}
 use Rattle.model.specs.HalfGates.{hash, halfA, halfB, rowG, rowE, halfZero, half}
 use Rattle.model.specs.Garbling.{schemeOf, siteOf, zeroAt, zeroStep, zeroTokens}
 use Rattle.model.specs.Material.{recordOf, records, lastRecord, material}
-use Rattle.model.specs.Evaluation.{openAt, openStep, past, run, evaluate}
+use Rattle.model.specs.Evaluation.{openAt, openStep, past, openGates, evaluate}
 use Rattle.model.specs.Refusals.{fine, isRefused, _then_, headVerdict, gateVerdict, recordVerdict, circuitVerdict, circuitSizes, rowStart, rowVerdict, materialVerdict}
-use Rattle.model.specs.Kept.{LeftRefused, ZeroPassedOn, TokenPassedOn, PassedOn, kinds01, kind01, kindValue, chargesBy, gateValueBy, gateVerdictBy, recordVerdictBy, circuitVerdictBy, rowVerdictBy, materialVerdictBy, halfABy, halfBBy, rowGBy, rowEBy, halfBy, schemeBy, zeroAtBy, zeroStepBy, zeroTokensBy, recordOfBy, recordsBy, lastRecordBy, materialBy, openStepBy, runBy, evaluateBy, SameBytes}
+use Rattle.model.specs.Kept.{LeftRefused, ZeroPassedOn, TokenPassedOn, PassedOn, kinds01, kind01, kindValue, chargesBy, gateValueBy, gateVerdictBy, recordVerdictBy, circuitVerdictBy, rowVerdictBy, materialVerdictBy, halfABy, halfBBy, rowGBy, rowEBy, halfBy, schemeBy, zeroAtBy, zeroStepBy, zeroTokensBy, recordOfBy, recordsBy, lastRecordBy, materialBy, openStepBy, openGatesBy, evaluateBy, SameBytes}
 use Rattle.model.proofs.Bits.{Bit, b0, b1, bit-of, bit-small}
 use Rattle.model.proofs.Codes.{value-bit, past-table, in-table}
 use Rattle.model.proofs.Lists.{agree, tabulate-length}
 use Rattle.model.proofs.Blocks.{Blocks, blocks-wide, cut-blocks}
 use Rattle.model.proofs.Schemes.{scheme-sound}
-use Rattle.model.proofs.Lengths.{input-zeros-blocks, zeros-blocks, run-blocks}
+use Rattle.model.proofs.Lengths.{input-zeros-blocks, zeros-blocks, opened-blocks}
 use Rattle.model.proofs.Accepted.{GateHolds, accepted-gate}
 use Rattle.model.proofs.Xor.{⊕-assoc, ⊕-zero}
 use Rattle.model.proofs.XorRules.{zero-⊕, ⊕-zero-right, times-0, times-1}
@@ -108,7 +108,7 @@ passed-on c e = record {
       zero-passed-on _ _ (wide-first c e k h r m) (wide-second c e k h r m) γ;
   tokens = λ ts s l k h bs.
       let S = schemeOf (getD s 2 0) in
-      let r = run-blocks S (scheme-sound (getD s 2 0)) (tabulate k (gateAt c)) (drop 9 s) (cut-blocks (inputs c) ts (omega arith)) in
+      let r = opened-blocks S (scheme-sound (getD s 2 0)) (tabulate k (gateAt c)) (drop 9 s) (cut-blocks (inputs c) ts (omega arith)) in
       let m : inputs c + length (tabulate k (gateAt c)) ≡ inputs c + k = omega (arith, tabulate-length k (gateAt c)) in
       token-passed-on _ _ (wide-first c e k h r m) (wide-second c e k h r m) S bs;
 }
@@ -280,10 +280,10 @@ module _ (γ : Garbling) where
 
 -- ---- tokens evaluated
 
-run-same : (S : Scheme) (gs : List Gate) (bs : List ℕ) (ts : List Block) → Known gs → run S gs bs ts ≡ runBy kind01 S gs bs ts
-unfolding run runBy openStep openStepBy
-run-same S [] bs ts h = refl
-run-same S (g ∷ gs) bs ts h = rw (same-kind (g .code) (h .0)) (run-same S gs _ _ (h .1))
+opened-same : (S : Scheme) (gs : List Gate) (bs : List ℕ) (ts : List Block) → Known gs → openGates S gs bs ts ≡ openGatesBy kind01 S gs bs ts
+unfolding openGates openGatesBy openStep openStepBy
+opened-same S [] bs ts h = refl
+opened-same S (g ∷ gs) bs ts h = rw (same-kind (g .code) (h .0)) (opened-same S gs _ _ (h .1))
 
 -- evaluation in scheme 3 does not ask for α, β and γ
 open-half : (k : Kind) (g : ℕ) (bs : List ℕ) (A B : Block) → openAt (halfBy kind01) k g bs A B ≡ openAt (half hash) k g bs A B
@@ -298,10 +298,10 @@ past-half (charged u v x) bs = refl
 past-half (free p q c) bs = refl
 past-half refused bs = refl
 
-run-half : (gs : List Gate) (bs : List ℕ) (ts : List Block) → runBy kind01 (halfBy kind01) gs bs ts ≡ runBy kind01 (half hash) gs bs ts
-unfolding runBy openStepBy
-run-half [] bs ts = refl
-run-half (g ∷ gs) bs ts = rw (open-half, past-half) (run-half gs _ _)
+opened-half : (gs : List Gate) (bs : List ℕ) (ts : List Block) → openGatesBy kind01 (halfBy kind01) gs bs ts ≡ openGatesBy kind01 (half hash) gs bs ts
+unfolding openGatesBy openStepBy
+opened-half [] bs ts = refl
+opened-half (g ∷ gs) bs ts = rw (open-half, past-half) (opened-half gs _ _)
 
 -- ---- a circuit that 01 accepts
 
@@ -335,6 +335,6 @@ module _ (c : List ℕ) (e : circuitVerdictBy kind01 c ≡ fine) where
     zeros = λ γ is-c. zero-tokens-same γ (rw is-c all-known);
     rows = λ γ is-c. material-same γ (rw is-c all-known);
     refusals = λ s. refusals-same (circuitOf c) all-known s;
-    tokens = λ ts s. run-same _ (circuitOf c .gates) (drop 9 s) ts all-known
-        ∙ sym (by-scheme (λ S. runBy kind01 S (circuitOf c .gates) (drop 9 s) ts) (run-half (circuitOf c .gates) (drop 9 s) ts) (getD s 2 0));
+    tokens = λ ts s. opened-same _ (circuitOf c .gates) (drop 9 s) ts all-known
+        ∙ sym (by-scheme (λ S. openGatesBy kind01 S (circuitOf c .gates) (drop 9 s) ts) (opened-half (circuitOf c .gates) (drop 9 s) ts) (getD s 2 0));
   }

@@ -13,7 +13,7 @@ use Rattle.model.specs.Tokens.{Garbling, inputZeros, oneToken}
 use Rattle.model.specs.Scheme.{Site, Scheme, recordLength}
 use Rattle.model.specs.Garbling.{schemeOf, siteOf, zeroStep, zeroTokens, inputOnes}
 use Rattle.model.specs.Material.{materialLength, header, recordOf, records, lastRecord, material}
-use Rattle.model.specs.Evaluation.{openStep, past, run}
+use Rattle.model.specs.Evaluation.{openStep, past, openGates}
 use Rattle.model.proofs.Xor.{⊕-length}
 use Rattle.model.proofs.Tokens.{seedBlock-length}
 use Rattle.model.proofs.Blocks.{Blocks, none, more, blocks-snoc, blocks-map, join-length}
@@ -23,13 +23,13 @@ use Rattle.model.proofs.Gates.{zero-at-wide, open-at-wide}
 
 -- ---- evaluation's tokens, over anyone's rows
 
-pub run-blocks : (S : Scheme) → Sound S → (gs : List Gate) (bs : List ℕ) {k : ℕ} {ts : List Block} → Blocks k ts
-    → Blocks (k + length gs) (run S gs bs ts)
-unfolding run openStep
-run-blocks S sound [] bs {k} r = rw (add-zero k) r
-run-blocks S sound (g ∷ gs) bs {k} r =
+pub opened-blocks : (S : Scheme) → Sound S → (gs : List Gate) (bs : List ℕ) {k : ℕ} {ts : List Block} → Blocks k ts
+    → Blocks (k + length gs) (openGates S gs bs ts)
+unfolding openGates openStep
+opened-blocks S sound [] bs {k} r = rw (add-zero k) r
+opened-blocks S sound (g ∷ gs) bs {k} r =
     let grown = blocks-snoc _ r (open-at-wide S sound (kindOf (g .code)) _ bs _ _) in
-    rw (add-suc k, ← suc-add k) (run-blocks S sound gs (past S (kindOf (g .code)) bs) grown)
+    rw (add-suc k, ← suc-add k) (opened-blocks S sound gs (past S (kindOf (g .code)) bs) grown)
 
 -- ---- zero and one tokens
 

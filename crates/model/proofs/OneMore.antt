@@ -12,7 +12,7 @@ use Rattle.model.specs.Tokens.{Garbling}
 use Rattle.model.specs.Scheme.{Scheme, recordLength}
 use Rattle.model.specs.Garbling.{siteOf, zeroStep}
 use Rattle.model.specs.Material.{recordOf, records}
-use Rattle.model.specs.Evaluation.{openStep, past, run}
+use Rattle.model.specs.Evaluation.{openStep, past, openGates}
 
 pub records-snoc : (γ : Garbling) (gs : List Gate) (g : Gate) (xs : List Block)
     → records γ (gs ++ (g ∷ [])) xs ≡ records γ gs xs ++ recordOf γ (kindOf (g .code)) (siteOf γ (wires (zeroStep γ) gs xs) g)
@@ -28,11 +28,11 @@ module _ (S : Scheme) where
   past-drop refused bs = rw zero-mul
 
   -- at the last gate the records of the charged gates before it are past
-  pub run-snoc : (gs : List Gate) (g : Gate) (bs : List ℕ) (ts : List Block)
-      → run S (gs ++ (g ∷ [])) bs ts ≡ run S gs bs ts ++ (openStep S (drop (charges gs * recordLength S) bs) (run S gs bs ts) g ∷ [])
-  unfolding run charges
-  run-snoc [] g bs ts = rw zero-mul
-  run-snoc (x ∷ gs) g bs ts =
+  pub opened-snoc : (gs : List Gate) (g : Gate) (bs : List ℕ) (ts : List Block)
+      → openGates S (gs ++ (g ∷ [])) bs ts ≡ openGates S gs bs ts ++ (openStep S (drop (charges gs * recordLength S) bs) (openGates S gs bs ts) g ∷ [])
+  unfolding openGates charges
+  opened-snoc [] g bs ts = rw zero-mul
+  opened-snoc (x ∷ gs) g bs ts =
       let k = kindOf (x .code) in
       let d : drop (charges gs * recordLength S) (past S k bs) ≡ drop ((charge k + charges gs) * recordLength S) bs = rw (past-drop, drop-drop, add-mul) in
-      rw (← d) (run-snoc gs g (past S k bs) (ts ++ (openStep S bs ts x ∷ [])))
+      rw (← d) (opened-snoc gs g (past S k bs) (ts ++ (openStep S bs ts x ∷ [])))

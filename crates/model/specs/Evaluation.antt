@@ -40,13 +40,13 @@ module _ (S : Scheme) where
   past refused bs = bs
 
   -- the tokens of all wires, from those of the wires before the gates gs
-  unfoldable pub run : List Gate → List ℕ → List Block → List Block
-  run [] bs ts = ts
-  run (g ∷ gs) bs ts = run gs (past (kindOf (g .code)) bs) (ts ++ (openStep bs ts g ∷ []))
+  unfoldable pub openGates : List Gate → List ℕ → List Block → List Block
+  openGates [] bs ts = ts
+  openGates (g ∷ gs) bs ts = openGates gs (past (kindOf (g .code)) bs) (ts ++ (openStep bs ts g ∷ []))
 
 -- the tokens of all wires; the header has 9 bytes, and its byte 2 is the scheme
 unfoldable pub evaluate : Circuit → List Block → List ℕ → List Block
-evaluate c ts material = run (schemeOf (getD material 2 0)) (c .gates) (drop 9 material) ts
+evaluate c ts material = openGates (schemeOf (getD material 2 0)) (c .gates) (drop 9 material) ts
 
 -- ---- decoding: "each the token's colour ⊕ the material's byte"
 

@@ -17,7 +17,7 @@ use Rattle.model.specs.Gaxr.{gaxr}
 use Rattle.model.specs.HalfGates.{hash, alpha, beta, gamma, generatorTweak, evaluatorTweak, joined}
 use Rattle.model.specs.Garbling.{own, schemeOf, siteOf, zeroStep, zeroTokens}
 use Rattle.model.specs.Material.{joinBlocks, lastStart, header, material}
-use Rattle.model.specs.Evaluation.{cut, openAt, openStep, past, run, evaluate}
+use Rattle.model.specs.Evaluation.{cut, openAt, openStep, past, openGates, evaluate}
 use Rattle.model.specs.Refusals.{Verdict, fine, refuse, _then_, firstOf, isRefused, isCharged, headVerdict, circuitVerdict, fileVerdict, rowRecordAt, lastVerdict, materialVerdict}
 
 -- ==== Job 2, gates that use one operand
@@ -48,7 +48,7 @@ pub record PassedOn (c : List ℕ) : Type 0 where
   pub zeros : (γ : Garbling) → γ .circuit ≡ circuitOf c → (k : ℕ) → k < gates c
       → ZeroPassedOn γ (wires (zeroStep γ) (tabulate k (gateAt c)) (inputZeros γ)) (gateAt c k)
   pub tokens : (ts s : List ℕ) → length ts ≡ 16 * inputs c → (k : ℕ) → k < gates c → (bs : List ℕ)
-      → TokenPassedOn (schemeOf (getD s 2 0)) bs (run (schemeOf (getD s 2 0)) (tabulate k (gateAt c)) (drop 9 s) (cut (inputs c) ts)) (gateAt c k)
+      → TokenPassedOn (schemeOf (getD s 2 0)) bs (openGates (schemeOf (getD s 2 0)) (tabulate k (gateAt c)) (drop 9 s) (cut (inputs c) ts)) (gateAt c k)
 
 -- ---- "Circuits accepted before get the bytes they got"
 
@@ -162,12 +162,12 @@ module _ (K : ℕ → Kind) where
     unfoldable pub openStepBy : List ℕ → List Block → Gate → Block
     openStepBy bs ts g = openAt S (K (g .code)) (own ts) bs (wire (block 0) ts (g .a .0)) (wire (block 0) ts (g .b .0))
 
-    unfoldable pub runBy : List Gate → List ℕ → List Block → List Block
-    runBy [] bs ts = ts
-    runBy (g ∷ gs) bs ts = runBy gs (past S (K (g .code)) bs) (ts ++ (openStepBy bs ts g ∷ []))
+    unfoldable pub openGatesBy : List Gate → List ℕ → List Block → List Block
+    openGatesBy [] bs ts = ts
+    openGatesBy (g ∷ gs) bs ts = openGatesBy gs (past S (K (g .code)) bs) (ts ++ (openStepBy bs ts g ∷ []))
 
   unfoldable pub evaluateBy : Circuit → List Block → List ℕ → List Block
-  evaluateBy c ts s = runBy (schemeBy (getD s 2 0)) (c .gates) (drop 9 s) ts
+  evaluateBy c ts s = openGatesBy (schemeBy (getD s 2 0)) (c .gates) (drop 9 s) ts
 
 -- A circuit c that 01 accepts, `circuitVerdictBy kind01 c ≡ fine`, is accepted, and gets what 01's table gives: p, and with it every length and
 -- every count of calls; the value of each wire; the zero tokens and the material of every garbling of it; what refuses any material, and the tokens
