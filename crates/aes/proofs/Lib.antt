@@ -1,5 +1,5 @@
 -- Laws that the proofs of the functions cite.
-mod Mix
+mod Joined
 mod Words
 mod Rounds
 mod Packing

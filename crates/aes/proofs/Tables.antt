@@ -10,7 +10,7 @@ use Rattle.model.specs.Aes.{xtime, mulBits, gmul, sBox, mixByte, mixWord, subWo
 use Rattle.model.proofs.Lists.{entry}
 use Rattle.model.proofs.Xor.{xor-assoc}
 use Rattle.aes.specs.Tables.{byteOf, wordOf, alone, IsTTables}
-use Rattle.aes.proofs.Mix.{mixed}
+use Rattle.model.proofs.Mix.{mixed}
 use Rattle.aes.proofs.Packing.{four, xor4, xor4-each, words-xor4, picked}
 
 -- ---- the tables

@@ -12,7 +12,7 @@ use Rattle.model.specs.Bytes.{tabulate, number, bytesOf}
 use Rattle.model.specs.Aes.{Block, _⊕_, block, times, double, quadruple}
 use Rattle.model.proofs.Lists.{elements}
 use Rattle.block.specs.Halves.{lowFirst}
-use Rattle.block.proofs.Number.{Bytes, none, more, bytes-number, number-bytes, number-append, of-number, both, leading-zeros}
+use Rattle.model.proofs.Number.{Bytes, none, more, bytes-number, number-bytes, number-append, of-number, both, leading-zeros}
 
 -- ---- the order of bytes
 

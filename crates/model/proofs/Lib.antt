@@ -2,16 +2,20 @@
 pub mod Lists
 pub mod Table
 pub mod Buffers
+pub mod Number
 pub mod Decimal
 pub mod Xor
 pub mod Field
+pub mod Bits
+pub mod Mix
+mod AesBytes
+mod Permutation
 pub mod Expansion
 pub mod Circuits
 pub mod Verdicts
 pub mod Conditions
 pub mod Examples
 pub mod Program
-pub mod Bits
 pub mod XorRules
 pub mod Tokens
 pub mod Calls

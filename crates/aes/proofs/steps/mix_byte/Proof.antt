@@ -1,5 +1,5 @@
 use borrow.Author.Needs.{needs}
-use Rattle.aes.proofs.Mix.{mixed}
+use Rattle.model.proofs.Mix.{mixed}
 use Rattle.aes.proofs.steps.mix_byte.Statement.{statement}
 use Rattle.aes.proofs.steps.mix_byte.Tie as tie
 

@@ -1,5 +1,5 @@
 use borrow.Author.Needs.{needs}
-use Rattle.aes.proofs.Mix.{shifted}
+use Rattle.model.proofs.Mix.{shifted}
 use Rattle.aes.proofs.steps.times_x.Statement.{statement}
 use Rattle.aes.proofs.steps.times_x.Tie as tie
 

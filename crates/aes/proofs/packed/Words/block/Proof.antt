@@ -1,6 +1,6 @@
 use borrow.Author.Needs.{needs}
 use Rattle.aes.specs.Tables.{wordOf, stateOf}
-use Rattle.aes.proofs.Mix.{joined}
+use Rattle.aes.proofs.Joined.{joined}
 use Rattle.aes.proofs.packed.Words.block.Statement.{statement}
 use Rattle.aes.proofs.packed.Words.block.Tie as tie
 

@@ -1,6 +1,6 @@
 use borrow.Author.Needs.{needs}
 use Rattle.model.specs.Aes.{mixColumns}
-use Rattle.aes.proofs.Mix.{joined}
+use Rattle.aes.proofs.Joined.{joined}
 use Rattle.aes.proofs.steps.State.mix_columns.Statement.{statement}
 use Rattle.aes.proofs.steps.State.mix_columns.Tie as tie
 

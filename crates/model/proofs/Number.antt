@@ -5,9 +5,9 @@ use Prim.Native.Nat.{ℕ, zero, suc, _+_, _*_, _/_, _%_, _^_, _<_}
 use native.Mathlib.Nat.{add-mul, mul-assoc, pow-succ', zero-add, suc-add, div-eq-of-lt, lt-of-lt-of-le, pow-le-pow-right}
 use native.Mathlib.Omega.{arith}
 use lib.Arith.{digits-div, digits-mod, digits-lt, mod-mul}
-use lib.ListN.{length, length-append, replicate}
+use lib.ListN.{length, length-append, getD, replicate}
 use lib.Pow.{pow-add}
 use Rattle.model.specs.Bytes.{from, number, bytesOf}
 
 -- every byte is below 256
 pub data Bytes : List ℕ → Type 0 where
@@ -17,6 +17,16 @@ pub data Bytes : List ℕ → Type 0 where
 pub from-bytes : (i n : ℕ) (f : ℕ → ℕ) → ((k : ℕ) → f k < 256) → Bytes (from i n f)
 from-bytes i zero f h = none
 from-bytes i (suc n) f h = more (h i) (from-bytes (suc i) n f h)
+
+-- and so is each of them, 0 past the end too
+pub byte-at : {l : List ℕ} → Bytes l → (i : ℕ) → getD l i 0 < 256
+byte-at none i = omega arith
+byte-at (more h r) zero = h
+byte-at (more h r) (suc i) = byte-at r i
+
+pub all-bytes : (l : List ℕ) → ((i : ℕ) → getD l i 0 < 256) → Bytes l
+all-bytes [] h = none
+all-bytes (x ∷ l) h = more (h 0) (all-bytes l (λ i. h (suc i)))
 
 pub number-lt : {l : List ℕ} → Bytes l → number l < 256 ^ length l
 unfolding number
@@ -44,7 +54,7 @@ leading-zeros (suc k) n x h =
     let l : x < 256 ^ (k + n) = lt-of-lt-of-le h (pow-le-pow-right (omega arith) (omega arith)) in
     rw suc-add (ap₂ {A = ℕ} {B = List ℕ} {C = List ℕ} (λ y ys. y ∷ ys) (ap (λ (z : ℕ). z % 256) (div-eq-of-lt l)) (leading-zeros k n x h))
 
-length-bytes : (n x : ℕ) → length (bytesOf n x) ≡ n
+pub length-bytes : (n x : ℕ) → length (bytesOf n x) ≡ n
 unfolding bytesOf
 length-bytes zero x = refl
 length-bytes (suc n) x = ap suc (length-bytes n x)
