@@ -38,6 +38,12 @@ static inline block block_number(uint64_t number)
     return _mm_set_epi64x((long long)__builtin_bswap64(number), 0);
 }
 
+/* A number in the first 8 bytes, and 0 in the last. */
+static inline block block_first(uint64_t number)
+{
+    return _mm_set_epi64x(0, (long long)__builtin_bswap64(number));
+}
+
 static inline unsigned block_colour(block b)
 {
     return (unsigned)_mm_extract_epi16(b, 7) >> 8 & 1;

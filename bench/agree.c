@@ -39,7 +39,7 @@ static struct written all_written(const struct worker *w, struct subject *s, uin
     memset(s->zeros, 0x5A, 16 * s->wires);
     memset(s->ones, 0x5A, 16 * INPUTS);
     memset(answer, 0x5A, sizeof answer);
-    number = w->garble(s->circuit, s->circuit_length, s->seed, 16, scheme, s->material, s->material_room, s->zeros,
+    number = w->garble(s->circuit, s->circuit_length, s->seed, 16, s->run, scheme, s->material, s->material_room, s->zeros,
                        16 * s->wires, s->ones, 16 * INPUTS, answer);
     append(&all, &number, 1);
     append(&all, answer, sizeof answer);
@@ -118,6 +118,18 @@ void agree_on_damage(unsigned calls)
 {
     struct subject s = make_subject(150);
     agree_on_changed(&s, calls);
+    free_subject(&s);
+}
+
+void agree_on_runs(unsigned calls)
+{
+    static const uint64_t runs[] = {1, UINT64_C(0x100000001), UINT64_C(0x0102030405060708), UINT64_MAX};
+    struct subject s = make_subject(150);
+    for (size_t i = 0; i < sizeof runs / sizeof runs[0]; i++) {
+        s.run = runs[i];
+        agree_on(&s);
+        agree_on_changed(&s, calls);
+    }
     free_subject(&s);
 }
 

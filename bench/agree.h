@@ -10,6 +10,9 @@ void agree_on(struct subject *s);
 /* The same on so many calls with one byte of an argument changed, where most are refused. */
 void agree_on_damage(unsigned calls);
 
+/* Both with each of four run numbers other than 0. */
+void agree_on_runs(unsigned calls);
+
 /* Both on a circuit in which half of the free gates use one operand. */
 void agree_on_one_operand(unsigned calls);
 

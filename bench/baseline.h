@@ -6,8 +6,8 @@
 #include <stdint.h>
 
 typedef uint8_t check_function(const uint8_t *, size_t, uint64_t *);
-typedef uint8_t garble_function(const uint8_t *, size_t, const uint8_t *, size_t, uint8_t, uint8_t *, size_t, uint8_t *,
-                                size_t, uint8_t *, size_t, uint64_t *);
+typedef uint8_t garble_function(const uint8_t *, size_t, const uint8_t *, size_t, uint64_t, uint8_t, uint8_t *, size_t,
+                                uint8_t *, size_t, uint8_t *, size_t, uint64_t *);
 typedef uint8_t evaluate_function(const uint8_t *, size_t, const uint8_t *, size_t, const uint8_t *, size_t, uint8_t *,
                                   size_t, uint64_t *);
 

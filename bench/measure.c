@@ -81,6 +81,7 @@ static void measure_all(unsigned rounds, unsigned first)
         agree_on(&subjects[size]);
     }
     agree_on_one_operand(600);
+    agree_on_runs(75);
     for (unsigned round = 0; round < rounds; round++)
         for (int size = 0; size < SIZES; size++)
             measure(&subjects[size], times[size], round, (first + round) % worker_count);

@@ -19,7 +19,8 @@ The baselines are the same work in C (`bench/*.c`): the same files in and out, t
 256 words, the fixed key's schedule made once, two blocks side by side. AES-NI: the processor's instructions, up to four blocks side
 by side. Both take a bit times a block by a mask and use that doubling is linear. Compiled by gcc with `-O3 -march=native`; the library
 is built for plain x86-64. In the same runs all that they write was compared with the library's, byte for byte, on each
-circuit measured, on one with gates that use one operand too, and on 1,200 calls with a byte of an argument changed.
+circuit measured, on one with gates that use one operand too, on one garbled with four run numbers other than 0, and on 1,500 calls with
+a byte of an argument changed. What is measured has run number 0.
 """
 
 CHAINED = """Chained rounds: the library once more, made by `bench/chained`, with AES by SubBytes, ShiftRows, MixColumns and AddRoundKey one

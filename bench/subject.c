@@ -117,8 +117,8 @@ void run_check(const struct worker *w, struct subject *s)
 void run_garble(const struct worker *w, struct subject *s, uint8_t scheme)
 {
     uint64_t answer[4];
-    must(w, "garble", w->garble(s->circuit, s->circuit_length, s->seed, 16, scheme, s->material, s->material_room, s->zeros,
-                                16 * s->wires, s->ones, 16 * INPUTS, answer));
+    must(w, "garble", w->garble(s->circuit, s->circuit_length, s->seed, 16, s->run, scheme, s->material, s->material_room,
+                                s->zeros, 16 * s->wires, s->ones, 16 * INPUTS, answer));
     s->material_length = answer[0];
     for (size_t i = 0; i < INPUTS; i++)
         memcpy(s->tokens + 16 * i, (i % 2 ? s->ones : s->zeros) + 16 * i, 16);

@@ -20,12 +20,14 @@ extern unsigned worker_count;
 void find_workers(void);
 
 /* A circuit of 128 inputs, 128 outputs and q gates, of which exactly half are charged, in random order; a gate's operands
- * are any two wires before it. With room for its material under any scheme, and a seed. */
+ * are any two wires before it. With room for its material under any scheme, a seed, and the run number of its garblings,
+ * which is 0 unless it is set. */
 struct subject {
     size_t q, p, wires;
     uint8_t *circuit, *material, *zeros, *ones, *tokens, *held;
     size_t circuit_length, material_room, material_length;
     uint8_t seed[16];
+    uint64_t run;
 };
 
 enum { INPUTS = 128, OUTPUTS = 128 };

@@ -44,6 +44,12 @@ static inline block block_number(uint64_t number)
     return (block){0, number};
 }
 
+/* A number in the first 8 bytes, and 0 in the last. */
+static inline block block_first(uint64_t number)
+{
+    return (block){number, 0};
+}
+
 static inline unsigned block_colour(block b)
 {
     return b.low & 1;

@@ -24,6 +24,18 @@ uint8_t NAME(check)(const uint8_t *circuit, size_t length, uint64_t answer[4])
     return 0;
 }
 
+/* The seed's schedule, and which of its garblings this is: a block with the run number in the first 8 bytes. */
+struct seed {
+    schedule keys;
+    block run;
+};
+
+/* What comes from the seed: the run number and a wire number, 0 for R, enciphered. */
+INLINE block seed_block(const struct seed *seed, uint64_t number)
+{
+    return encrypt(&seed->keys, block_xor(seed->run, block_number(number)));
+}
+
 /* A charged gate's record: its mark, its wire number and its rows. */
 INLINE uint8_t *write_record(uint8_t *at, size_t g, const block *rows, size_t count)
 {
@@ -35,12 +47,12 @@ INLINE uint8_t *write_record(uint8_t *at, size_t g, const block *rows, size_t co
 }
 
 /* A charged gate: its record, its zero token; the place of the next record. */
-INLINE uint8_t *garble_charged(unsigned scheme, const schedule *seed, const struct offset *o, unsigned code, size_t g,
+INLINE uint8_t *garble_charged(unsigned scheme, const struct seed *seed, const struct offset *o, unsigned code, size_t g,
                                block xa, block xb, block *x, uint8_t *at)
 {
     block rows[4];
     if (scheme == 1) {
-        block fresh = encrypt(seed, block_number(g));
+        block fresh = seed_block(seed, g);
         *x = garble_rows(o, code, g, xa, xb, &fresh, rows);
         return write_record(at, g, rows, 4);
     }
@@ -53,7 +65,7 @@ INLINE uint8_t *garble_charged(unsigned scheme, const schedule *seed, const stru
 }
 
 /* All gates by one scheme: the zero tokens and the records. The place of the last record. */
-INLINE uint8_t *garble_gates(unsigned scheme, const uint8_t *circuit, const struct sizes *z, const schedule *seed,
+INLINE uint8_t *garble_gates(unsigned scheme, const uint8_t *circuit, const struct sizes *z, const struct seed *seed,
                              const struct offset *o, uint8_t *at, uint8_t *zeros)
 {
     const uint8_t *record = circuit + 8;
@@ -73,13 +85,13 @@ INLINE uint8_t *garble_gates(unsigned scheme, const uint8_t *circuit, const stru
 }
 
 /* The inputs, the header, the gates and the last record. */
-static void garble_all(unsigned scheme, const uint8_t *circuit, const struct sizes *z, const uint8_t *seed,
+static void garble_all(unsigned scheme, const uint8_t *circuit, const struct sizes *z, const uint8_t *key, uint64_t run,
                        uint8_t *material, uint8_t *zeros, uint8_t *ones)
 {
-    schedule keys = expand(seed);
-    struct offset o = offset_of(block_coloured(encrypt(&keys, block_number(0))));
+    struct seed seed = {expand(key), block_first(run)};
+    struct offset o = offset_of(block_coloured(seed_block(&seed, 0)));
     for (size_t i = 0; i < z->n; i++) {
-        block x = encrypt(&keys, block_number(i + 1));
+        block x = seed_block(&seed, i + 1);
         block_store(zeros + 16 * i, x);
         block_store(ones + 16 * i, block_xor(x, o.r));
     }
@@ -87,20 +99,20 @@ static void garble_all(unsigned scheme, const uint8_t *circuit, const struct siz
     memcpy(material + 3, circuit + 2, 6);
     uint8_t *at = material + 9;
     if (scheme == 1)
-        at = garble_gates(1, circuit, z, &keys, &o, at, zeros);
+        at = garble_gates(1, circuit, z, &seed, &o, at, zeros);
     else if (scheme == 2)
-        at = garble_gates(2, circuit, z, &keys, &o, at, zeros);
+        at = garble_gates(2, circuit, z, &seed, &o, at, zeros);
     else
-        at = garble_gates(3, circuit, z, &keys, &o, at, zeros);
+        at = garble_gates(3, circuit, z, &seed, &o, at, zeros);
     at[0] = 0x47, at[1] = 0x44;
     const uint8_t *last = zeros + 16 * (z->n + z->q - z->m) + 15;
     for (size_t i = 0; i < z->m; i++)
         at[2 + i] = last[16 * i] & 1;
 }
 
-uint8_t NAME(garble)(const uint8_t *circuit, size_t length, const uint8_t *seed, size_t seed_length, uint8_t scheme,
-                     uint8_t *material, size_t material_room, uint8_t *zeros, size_t zeros_room, uint8_t *ones,
-                     size_t ones_room, uint64_t answer[4])
+uint8_t NAME(garble)(const uint8_t *circuit, size_t length, const uint8_t *seed, size_t seed_length, uint64_t run,
+                     uint8_t scheme, uint8_t *material, size_t material_room, uint8_t *zeros, size_t zeros_room,
+                     uint8_t *ones, size_t ones_room, uint64_t answer[4])
 {
     struct sizes z;
     uint64_t place;
@@ -118,7 +130,7 @@ uint8_t NAME(garble)(const uint8_t *circuit, size_t length, const uint8_t *seed,
         return answered(answer, 19, wires, 0);
     if (ones_room < inputs)
         return answered(answer, 19, inputs, 0);
-    garble_all(scheme, circuit, &z, seed, material, zeros, ones);
+    garble_all(scheme, circuit, &z, seed, run, material, zeros, ones);
     return answered(answer, 0, file, 4 * z.p);
 }
 

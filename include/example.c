@@ -33,13 +33,14 @@ static int run(uint8_t scheme, uint8_t u, uint8_t v) {
     uint64_t answer[4];
     size_t length;
 
-    /* The garbler's side: a seed for this garbling alone. It sends the material, and a token for each input. */
+    /* The garbler's side: a seed for this garbling alone, which is its run 0. It sends the material, and a token for each
+     * input. */
     if (getrandom(seed, sizeof seed, 0) != 16) {
         printf("no seed\n");
         return 1;
     }
-    if (refused("garble", weighhare_garble(and_gate, sizeof and_gate, seed, sizeof seed, scheme, material, sizeof material,
-                                           zeros, sizeof zeros, ones, sizeof ones, answer), answer)) return 1;
+    if (refused("garble", weighhare_garble(and_gate, sizeof and_gate, seed, sizeof seed, 0, scheme, material,
+                                           sizeof material, zeros, sizeof zeros, ones, sizeof ones, answer), answer)) return 1;
     length = (size_t)answer[0];
     explicit_bzero(seed, sizeof seed);
     if (refused("encode", weighhare_encode(and_gate, sizeof and_gate, values, sizeof values, zeros, 2 * 16, ones, sizeof ones,

@@ -22,7 +22,10 @@
  *
  * What is secret, and what the caller must do about it, since nothing here does:
  *   - The seed is 16 bytes of the system's random numbers, from getrandom(2) or another such source. One seed is for one
- *     garbling: two garblings from one seed have the same R, the block by which the two tokens of every wire differ.
+ *     garbling for each run number: two garblings from one seed with the same run number have the same R, the block by
+ *     which the two tokens of every wire differ. With different run numbers no block that comes from the seed, to make R
+ *     or an input's tokens, is the same in both. How little one run tells of another rests on AES, and is not proved.
+ *     Nothing here notices a run number that is used twice.
  *   - A garbling is for one evaluation. Evaluated on two input lists it shows R wherever two tokens of a wire differ, and
  *     whoever has R makes each wire's other token from the one.
  *   - After use the garbler wipes the seed, `zeros` and `ones`, the evaluator its `tokens` and `wires`, and each its own
@@ -38,8 +41,12 @@
 #ifndef WEIGHHARE_H
 #define WEIGHHARE_H
 
-/* The version of this header, and of the archive and the Rust crate that come with it. The archive itself holds none. */
-#define WEIGHHARE_VERSION "0.4.0"
+/*
+ * The version of this header, and of the archive and the Rust crate that come with it. The archive itself holds none.
+ * 0.5.0 moved the arguments of weighhare_garble: an object compiled with an older header must be compiled anew before it
+ * is linked with this archive. No linker notices where it was not.
+ */
+#define WEIGHHARE_VERSION "0.5.0"
 
 #include <stddef.h>
 #include <stdint.h>
@@ -129,17 +136,19 @@ uint8_t weighhare_plain(const uint8_t *circuit, size_t circuit_len, const uint8_
  * who runs code on the same processor may learn about the tokens, and here about the seed.
  *
  *   circuit   the circuit's bytes
- *   seed      16 bytes from getrandom(2) or another source of the system's random numbers, used for no other garbling;
- *             secret, to wipe when garble has answered
+ *   seed      16 bytes from getrandom(2) or another source of the system's random numbers, used for no other garbling
+ *             with the same run number; secret, to wipe when its last garbling is made
+ *   run       the run number: which of the seed's garblings this is; 0 for a seed that has one alone. Every number is
+ *             taken. It stands in no file, and no other function asks for it
  *   scheme    1, 2 or 3
  *   material  output: 11 + m + p(4 + 16 rows) bytes, with 4, 3 or 2 rows in scheme 1, 2 or 3; for the evaluator
  *   zeros     output: 16(n+q) bytes, the zero token of every wire; secret, to wipe when the inputs' tokens are chosen
  *   ones      output: 16n bytes, the one token of every input; secret, to wipe then too
  *   answer    the material's length, the calls of the block cipher made (4p), 0, 0
  */
-uint8_t weighhare_garble(const uint8_t *circuit, size_t circuit_len, const uint8_t *seed, size_t seed_len, uint8_t scheme,
-                         uint8_t *material, size_t material_len, uint8_t *zeros, size_t zeros_len, uint8_t *ones,
-                         size_t ones_len, uint64_t answer[4]);
+uint8_t weighhare_garble(const uint8_t *circuit, size_t circuit_len, const uint8_t *seed, size_t seed_len, uint64_t run,
+                         uint8_t scheme, uint8_t *material, size_t material_len, uint8_t *zeros, size_t zeros_len,
+                         uint8_t *ones, size_t ones_len, uint64_t answer[4]);
 
 /*
  * Chooses the inputs' tokens: for value 0 that of the zero list, for value 1 that of the one list.

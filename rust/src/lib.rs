@@ -15,8 +15,10 @@
 //! What the caller must do about it, since nothing here does:
 //!
 //! - The seed is 16 bytes of the system's random numbers, from `getrandom(2)`, `/dev/urandom` or another such source. One
-//!   seed is for one garbling: two garblings from one seed have the same R, the block by which the two tokens of every
-//!   wire differ.
+//!   seed is for one garbling for each run number: two garblings from one seed with the same run number have the same R,
+//!   the block by which the two tokens of every wire differ. With different run numbers no block that comes from the seed,
+//!   to make R or an input's tokens, is the same in both. How little one run tells of another rests on AES, and is not
+//!   proved. Nothing here notices a run number that is used twice.
 //! - A garbling is for one evaluation. Evaluated on two input lists it shows R wherever two tokens of a wire differ, and
 //!   whoever has R makes each wire's other token from the one.
 //! - After use the garbler wipes the seed, `zeros` and `ones`, the evaluator its `tokens` and `wires`, and each its own
@@ -34,12 +36,13 @@
 //! let sizes = weighhare::check(&circuit)?;
 //! let wires = sizes.n + sizes.q;
 //!
-//! // The garbler's side. A real seed comes from the system's random numbers and is used once.
+//! // The garbler's side. A real seed comes from the system's random numbers and is used once for each run number: this is
+//! // its run 0.
 //! let seed = [7; 16];
 //! let mut material = vec![0; 11 + sizes.m + sizes.p * (4 + 16 * 2)];
 //! let mut zeros = vec![0; 16 * wires];
 //! let mut ones = vec![0; 16 * sizes.n];
-//! let garbled = weighhare::garble(&circuit, &seed, 3, &mut material, &mut zeros, &mut ones)?;
+//! let garbled = weighhare::garble(&circuit, &seed, 0, 3, &mut material, &mut zeros, &mut ones)?;
 //! assert_eq!(garbled.length, material.len());
 //! let mut inputs = vec![0; 16 * sizes.n];
 //! weighhare::encode(&circuit, &[1, 1], &zeros[..16 * sizes.n], &ones, &mut inputs)?;
@@ -143,15 +146,19 @@ pub fn plain(circuit: &[u8], values: &[u8], wires: &mut [u8]) -> Result<(), Refu
 /// Garbles a circuit by a scheme: 1 is GaX, 2 GaXR, 3 half-gates. Refusals 1 to 7, 8, 14, 19.
 ///
 /// `seed` has 16 bytes, from `getrandom(2)` or another source of the system's random numbers; it is secret, and used for
-/// no other garbling. Writes 11+m+p(4+16r) bytes to `material`, where r is 4, 3 or 2 in scheme 1, 2 or 3; 16(n+q) bytes
-/// to `zeros`, the zero token of every wire; and 16n bytes to `ones`, the one token of every input. Both lists are
-/// secret. Wipe `seed` when garble has answered, `zeros` and `ones` when the inputs' tokens are chosen.
+/// no other garbling with the same run number. `run` is the run number: which of the seed's garblings this is; 0 for a seed
+/// that has one alone. Every number is taken. It stands in no file, and no other function asks for it.
+///
+/// Writes 11+m+p(4+16r) bytes to `material`, where r is 4, 3 or 2 in scheme 1, 2 or 3; 16(n+q) bytes to `zeros`, the zero
+/// token of every wire; and 16n bytes to `ones`, the one token of every input. Both lists are secret. Wipe `seed` when its
+/// last garbling is made, `zeros` and `ones` when the inputs' tokens are chosen.
 ///
 /// Not constant-time: AES goes by look-ups in tables, and their time can depend on the data, through the cache. Somebody
 /// who runs code on the same processor may learn about the tokens, and here about the seed.
 pub fn garble(
     circuit: &[u8],
     seed: &[u8],
+    run: u64,
     scheme: u8,
     material: &mut [u8],
     zeros: &mut [u8],
@@ -165,6 +172,7 @@ pub fn garble(
             circuit.len(),
             seed.as_ptr(),
             seed.len(),
+            run,
             scheme,
             material.as_mut_ptr(),
             material.len(),

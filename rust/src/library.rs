@@ -24,6 +24,7 @@ extern "C" {
         circuit_len: usize,
         seed: *const u8,
         seed_len: usize,
+        run: u64,
         scheme: u8,
         material: *mut u8,
         material_len: usize,

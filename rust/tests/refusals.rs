@@ -71,16 +71,27 @@ fn of_the_lists_handed_in() {
     assert_eq!(bits, [FILL], "untouched");
 }
 
-#[test]
-fn of_garble() {
-    let garble = |seed: &[u8], scheme: u8, lengths: [usize; 3]| {
+/// Garble's refusal of a seed, a scheme and buffers of these lengths, which is the same in every run. The buffers are seen to
+/// be as they were.
+fn garble_refusal(seed: &[u8], scheme: u8, lengths: [usize; 3]) -> Option<Refusal> {
+    let in_run = |run: u64| {
         let [mut material, mut zeros, mut ones] = lengths.map(|length| vec![FILL; length]);
-        let refusal = weighhare::garble(&AND, seed, scheme, &mut material, &mut zeros, &mut ones).err();
+        let refusal = weighhare::garble(&AND, seed, run, scheme, &mut material, &mut zeros, &mut ones).err();
         for buffer in [material, zeros, ones] {
             assert!(buffer.iter().all(|byte| *byte == FILL), "untouched");
         }
         refusal
     };
+    let refusal = in_run(0);
+    for run in [1, 1 << 32, u64::MAX] {
+        assert_eq!(in_run(run), refusal, "run {run}");
+    }
+    refusal
+}
+
+#[test]
+fn of_garble() {
+    let garble = garble_refusal;
     assert_eq!(
         garble(&SEED[1..], 1, [80, 48, 32]),
         Some(Refusal::SeedLength { length: 15 })

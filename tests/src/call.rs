@@ -71,6 +71,8 @@ pub struct Call {
     pub gates: Vec<Gate>,
     /// Garble's seed.
     pub seed: Vec<u8>,
+    /// Garble's run number.
+    pub run: u64,
     /// Garble's scheme byte.
     pub scheme: u8,
     /// The value list of plain and encode.
@@ -151,6 +153,7 @@ impl Call {
         let garbled = op::garble(
             &self.circuit,
             &self.seed,
+            self.run,
             self.scheme,
             material,
             zeros,

@@ -167,6 +167,13 @@ impl Fields {
         T::try_from(*number).map_err(|_| format!("{name}: {number} is too wide"))
     }
 
+    /// A run number: 16 hexadecimal digits.
+    fn run(&self, name: &str) -> Result<u64, String> {
+        let bytes = self.bytes(name)?.try_into();
+        let number = bytes.map(u64::from_be_bytes);
+        number.map_err(|_| format!("{name}: 16 digits expected"))
+    }
+
     fn list(&self, name: &str) -> Result<&[Value], String> {
         match self.0.get(name) {
             Some(Value::List(items)) => Ok(items),
@@ -223,6 +230,7 @@ impl Fields {
                 "m" => call.m = self.number(name)?,
                 "gates" => call.gates = self.gates()?,
                 "seed" => call.seed = self.bytes(name)?,
+                "run" => call.run = self.run(name)?,
                 "scheme" => call.scheme = self.number(name)?,
                 "values" => call.values = self.bytes(name)?,
                 "zero" => call.zero = self.bytes(name)?,

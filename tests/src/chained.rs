@@ -17,6 +17,8 @@ pub struct Chain {
     pub circuit: Vec<u8>,
     /// Garble's seed.
     pub seed: Vec<u8>,
+    /// Garble's run number.
+    pub run: u64,
     /// Encode's values.
     pub values: Vec<u8>,
     scheme: u8,
@@ -28,13 +30,19 @@ pub struct Chain {
 /// The call that refused, 1 to 4, and its refusal.
 type Ended = Result<(), (u8, Refused)>;
 
+/// The call that must refuse, and its refusal's number; nothing where the chain must run.
+type Due = Option<(u8, u8)>;
+
+/// Which field of a chain's line is the setting.
+const SETTING: usize = 3;
+
 impl Chain {
     /// Runs the calls in turn, up to the first that refuses, in the buffers given.
     fn run_in(&self, buffers: &mut [Vec<u8>; 6]) -> Ended {
         let [material, zeros, ones, tokens, wires, bits] = buffers;
-        let circuit = &self.circuit;
+        let (circuit, seed, scheme) = (&self.circuit, &self.seed, self.scheme);
         let by = |call: u8| move |refused: Refused| (call, refused);
-        let garbled = op::garble(circuit, &self.seed, self.scheme, material, zeros, ones);
+        let garbled = op::garble(circuit, seed, self.run, scheme, material, zeros, ones);
         let length = garbled.map_err(by(1))?.length as usize;
         let sizes = op::check(circuit).map_err(by(1))?;
         let list = BLOCK * sizes.n;
@@ -47,9 +55,22 @@ impl Chain {
         op::decode(circuit, outputs, material, bits).map_err(by(4))
     }
 
-    /// The line of the chain: circuit, seed, values, setting, answer, and the buffers of the wires
-    /// and the bits after it. `due` is the call that must refuse, and its refusal's number.
-    pub fn case(&self, due: Option<(u8, u8)>) -> String {
+    /// The line of a chain of run 0. `due` is the call that must refuse, and its refusal's number.
+    pub fn case(&self, due: Due) -> String {
+        assert_eq!(self.run, 0, "a line that has no run number");
+        lines::line(&self.fields(due))
+    }
+
+    /// The line of a chain that has its run number.
+    pub fn case_with_run(&self, due: Due) -> String {
+        let mut fields = self.fields(due);
+        lines::add_run(&mut fields[SETTING], self.run);
+        lines::line(&fields)
+    }
+
+    /// The fields of the chain: circuit, seed, values, setting, answer, and the buffers of the wires
+    /// and the bits after it.
+    fn fields(&self, due: Due) -> [Vec<u8>; 7] {
         let mut buffers = self.lens.map(|length| vec![self.fill; length]);
         let ended = self.run_in(&mut buffers);
         let given = ended.err().map(|(call, refused)| (call, refused.number));
@@ -69,7 +90,7 @@ impl Chain {
         let [.., wires, bits] = buffers;
         let (circuit, seed) = (self.circuit.clone(), self.seed.clone());
         let values = self.values.clone();
-        lines::line(&[circuit, seed, values, setting, answer, wires, bits])
+        [circuit, seed, values, setting, answer, wires, bits]
     }
 
     /// The bits of a chain that ran are those of the plain circuit.
@@ -87,7 +108,7 @@ fn chain(random: &mut Random, scheme: Scheme) -> Chain {
     chain_on(random, scheme, circuit)
 }
 
-/// A chain that runs, with room to spare.
+/// A chain of run 0 that runs, with room to spare.
 pub fn chain_on(random: &mut Random, scheme: Scheme, circuit: Vec<u8>) -> Chain {
     let sizes = op::check(&circuit).expect("an accepted circuit");
     let (list, wires) = (BLOCK * sizes.n, BLOCK * sizes.wires());
@@ -96,6 +117,7 @@ pub fn chain_on(random: &mut Random, scheme: Scheme, circuit: Vec<u8>) -> Chain 
     Chain {
         circuit,
         seed: generate::seed(random),
+        run: 0,
         values: generate::values(random, sizes.n),
         scheme: scheme.byte(),
         fill: random.byte(),
@@ -131,7 +153,7 @@ pub fn cases() -> String {
 }
 
 /// The calls, and the refusals that they can give in a chain, in order.
-const ENDS: [(u8, u8); 15] = [
+pub const ENDS: [(u8, u8); 15] = [
     (1, 1),
     (1, 2),
     (1, 3),
@@ -150,7 +172,7 @@ const ENDS: [(u8, u8); 15] = [
 ];
 
 /// Changes an argument so that a call gives a refusal.
-fn spoil(chain: &mut Chain, call: u8, number: u8) {
+pub fn spoil(chain: &mut Chain, call: u8, number: u8) {
     let circuit = &mut chain.circuit;
     match (call, number) {
         (1, 1) => circuit.truncate(7),

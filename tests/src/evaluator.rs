@@ -90,7 +90,7 @@ pub fn own(random: &mut Random, operation: Operation, bytes: &[u8], scheme: Sche
     own_from(random, operation, bytes, scheme, &seed)
 }
 
-/// Calls on a garbling made here, one for each list of input values: evaluate on the tokens of the
+/// Calls on a garbling of run 0 made here, one for each list of input values: evaluate on the tokens of the
 /// inputs, decode on those of the outputs that come of it.
 pub fn own_from(
     random: &mut Random,
@@ -105,7 +105,7 @@ pub fn own_from(
     let mut material = vec![0; material::length(sizes, scheme)];
     let (mut zeros, mut ones) = (vec![0; wires], vec![0; BLOCK * n]);
     let byte = scheme.byte();
-    op::garble(bytes, seed, byte, &mut material, &mut zeros, &mut ones).expect("room");
+    op::garble(bytes, seed, 0, byte, &mut material, &mut zeros, &mut ones).expect("room");
     let call = |values: Vec<u8>| {
         let (mut tokens, mut held) = (vec![0; BLOCK * n], vec![0; wires]);
         op::encode(bytes, &values, &zeros[..BLOCK * n], &ones, &mut tokens).expect("room");

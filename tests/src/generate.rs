@@ -93,6 +93,39 @@ pub fn seed(random: &mut Random) -> Vec<u8> {
     random.bytes(BLOCK)
 }
 
+/// Run numbers (02, job 4): the least and the largest, those with bits in one half alone or in both,
+/// and one whose bytes are all different. The stored cases of runs are made from this list.
+pub const RUNS: [u64; 8] = [
+    0,
+    1,
+    1 << 16,
+    1 << 32,
+    (1 << 32) + 1,
+    1 << 63,
+    u64::MAX,
+    0x0102_0304_0506_0708,
+];
+
+/// A run number: 0 in half of the draws, else another of the list, or any.
+pub fn run(random: &mut Random) -> u64 {
+    match random.below(4) {
+        0 | 1 => 0,
+        2 => random.one_of(&RUNS[1..]),
+        _ => {
+            let byte = |run: u64, byte: u8| run << 8 | u64::from(byte);
+            random.bytes(8).into_iter().fold(0, byte)
+        }
+    }
+}
+
+/// Draws a run number for a call of garble; no other operation takes one. It is drawn apart from the
+/// other arguments: the stored cases of 01 and of 02's job 2 have none.
+pub fn add_run(random: &mut Random, call: &mut Call) {
+    if call.operation == Operation::Garble {
+        call.run = run(random);
+    }
+}
+
 /// A list of values, 0 or 1 each.
 pub fn values(random: &mut Random, count: usize) -> Vec<u8> {
     (0..count).map(|_| random.below(2) as u8).collect()
@@ -117,7 +150,7 @@ pub fn stranger(random: &mut Random, circuit: &Circuit, scheme: Scheme) -> Vec<u
     material.to_bytes(circuit)
 }
 
-/// The material that garbling the circuit from some seed makes.
+/// The material that garbling the circuit from some seed makes, in run 0.
 pub fn garbled(random: &mut Random, circuit: &Circuit, scheme: Scheme) -> Vec<u8> {
     let sizes = circuit.sizes();
     let mut material = vec![0; material::length(sizes, scheme)];
@@ -125,8 +158,16 @@ pub fn garbled(random: &mut Random, circuit: &Circuit, scheme: Scheme) -> Vec<u8
     let mut ones = vec![0; BLOCK * sizes.n];
     let (bytes, seed) = (circuit.to_bytes(), seed(random));
     let scheme = scheme.byte();
-    operations::garble(&bytes, &seed, scheme, &mut material, &mut zeros, &mut ones)
-        .expect("an accepted circuit, a seed and room");
+    operations::garble(
+        &bytes,
+        &seed,
+        0,
+        scheme,
+        &mut material,
+        &mut zeros,
+        &mut ones,
+    )
+    .expect("an accepted circuit, a seed and room");
     material
 }
 
@@ -136,13 +177,16 @@ pub fn call(random: &mut Random, operation: Operation) -> Call {
     call_on(random, operation, &bytes)
 }
 
-/// A call of the operation that is not refused, on a circuit of all codes.
+/// A call of the operation that is not refused, on a circuit of all codes; of garble in any run.
 pub fn any_call(random: &mut Random, operation: Operation) -> Call {
     let bytes = any_small_circuit(random);
-    call_on(random, operation, &bytes)
+    let mut call = call_on(random, operation, &bytes);
+    add_run(random, &mut call);
+    call
 }
 
-/// A call of the operation on an accepted circuit, not refused; buffers have some bytes to spare.
+/// A call of the operation on an accepted circuit, not refused; buffers have some bytes to spare. Of
+/// garble it is in run 0.
 pub fn call_on(random: &mut Random, operation: Operation, bytes: &[u8]) -> Call {
     let circuit = Circuit::read(bytes).expect("an accepted circuit");
     let Sizes { n, m, .. } = circuit.sizes();

@@ -79,19 +79,19 @@ pub fn fingerprint(bytes: &[u8]) -> Block {
     chain
 }
 
-/// A seed for which the zero tokens of inputs 1 and 2 have these colours.
+/// A seed for which the zero tokens of inputs 1 and 2 have these colours in run 0.
 pub fn coloured_seed(random: &mut Random, colours: [Colour; 2]) -> Vec<u8> {
     loop {
         let seed = generate::seed(random);
         let bytes: [u8; BLOCK] = seed[..].try_into().expect("16 bytes");
-        let tokens = Seed::new(&bytes);
+        let tokens = Seed::new(&bytes, 0);
         if [1, 2].map(|wire| tokens.zero_token(wire).colour()) == colours {
             return seed;
         }
     }
 }
 
-/// The line of a garbling: rule, seed, scheme, answer, and the fingerprints of the material, the
+/// The line of a garbling of run 0: rule, seed, scheme, answer, and the fingerprints of the material, the
 /// zero tokens and the one tokens.
 pub fn case(rule: Rule, seed: Vec<u8>, scheme: u8) -> String {
     let mut call = Call {

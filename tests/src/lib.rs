@@ -1,6 +1,6 @@
-//! A second implementation of document 01 ("01" below) with job 2 of document 02 ("02"), written from
-//! the papers alone, and what the tests need around it: calls as values, a reader of stored cases and
-//! a generator of new ones.
+//! A second implementation of document 01 ("01" below) with jobs 2 and 4 of document 02 ("02"),
+//! written from the papers alone, and what the tests need around it: calls as values, a reader of
+//! stored cases and a generator of new ones.
 
 #![forbid(unsafe_code)]
 #![warn(missing_docs)]
@@ -25,6 +25,7 @@ pub mod pi;
 pub mod program;
 pub mod random;
 pub mod refused;
+pub mod runs;
 pub mod scheme;
 pub mod token;
 pub mod vectors;

@@ -88,10 +88,10 @@ fn arguments(call: &Call) -> Vec<Vec<u8>> {
     }
 }
 
-/// The line of a call and of what must come of it: the arguments, the answer, the buffers after the
+/// The fields of a call and of what must come of it: the arguments, the answer, the buffers after the
 /// call. Those of garble, encode, evaluate and decode are left out after a refusal, which leaves
 /// them as they were.
-pub fn case(call: &Call, expected: &Outcome) -> String {
+fn fields(call: &Call, expected: &Outcome) -> Vec<Vec<u8>> {
     let mut fields = arguments(call);
     fields.push(answer(&expected.answer));
     let left_out = matches!(
@@ -105,7 +105,30 @@ pub fn case(call: &Call, expected: &Outcome) -> String {
     if !(left_out && expected.answer.is_err()) {
         fields.extend(expected.buffers.clone());
     }
+    fields
+}
+
+/// The line of a call and of what must come of it. One of garble is of run 0.
+pub fn case(call: &Call, expected: &Outcome) -> String {
+    assert_eq!(call.run, 0, "a line that has no run number");
+    line(&fields(call, expected))
+}
+
+/// The line of a garbling that has its run number.
+pub fn case_with_run(call: &Call, expected: &Outcome) -> String {
+    assert_eq!(call.operation, Operation::Garble, "no other has a run");
+    let mut fields = fields(call, expected);
+    add_run(&mut fields[GARBLE_SETTING], call.run);
     line(&fields)
+}
+
+/// Which field of a garbling's line is the setting.
+const GARBLE_SETTING: usize = 2;
+
+/// Adds the run number to the setting of a garbling or of a chain: 8 bytes, big-endian, at its end (02,
+/// job 4). A setting without these is of run 0.
+pub fn add_run(setting: &mut Vec<u8>, run: u64) {
+    setting.extend(run.to_be_bytes());
 }
 
 /// The case of evaluate's list form on a line: the call, and what must come of it. Nothing where the

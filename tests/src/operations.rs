@@ -6,6 +6,7 @@ use crate::circuit::{Circuit, Gate, Kind, Sizes, Truth};
 use crate::material::{self, read_scheme, Material};
 use crate::refused::{refuse_if, Refused};
 use crate::scheme::{Evaluator, Garbler, Scheme};
+use crate::token::Seed;
 
 /// What garble returns.
 #[derive(Clone, Copy, Debug, PartialEq, Eq)]
@@ -66,10 +67,12 @@ pub fn plain(circuit: &[u8], values: &[u8], wires: &mut [u8]) -> Result<(), Refu
     Ok(())
 }
 
-/// Garble: the material, the zero tokens of all wires, the one tokens of the inputs.
+/// Garble: the material, the zero tokens of all wires, the one tokens of the inputs. No run number is
+/// refused.
 pub fn garble(
     circuit: &[u8],
     seed: &[u8],
+    run: u64,
     scheme: u8,
     material: &mut [u8],
     zeros: &mut [u8],
@@ -84,7 +87,7 @@ pub fn garble(
     check_room(zeros, BLOCK * sizes.wires())?;
     check_room(ones, BLOCK * sizes.n)?;
 
-    let mut garbler = Garbler::new(scheme, seed);
+    let mut garbler = Garbler::new(scheme, Seed::new(seed, run));
     let (made, zero_tokens) = garble_wires(&circuit, &mut garbler, scheme);
     let one_token = |&zero: &Block| garbler.token(zero, Truth(true));
     let one_tokens: Vec<Block> = zero_tokens[..sizes.n].iter().map(one_token).collect();

@@ -1,7 +1,7 @@
 //! The three schemes: garbling one gate and evaluating one gate (01, Tokens; Schemes 1 to 3; 02,
 //! job 2).
 
-use crate::block::{Block, Colour, BLOCK};
+use crate::block::{Block, Colour};
 use crate::circuit::{Gate, Kind, Truth, TRUTH_PAIRS};
 use crate::pi::Pi;
 use crate::token::{token, Seed};
@@ -106,7 +106,7 @@ pub struct GarbledGate {
     pub rows: Vec<Block>,
 }
 
-/// Garbles gates by one scheme from one seed.
+/// Garbles gates by one scheme from one run of a seed.
 #[derive(Clone, Debug)]
 pub struct Garbler {
     scheme: Scheme,
@@ -117,8 +117,7 @@ pub struct Garbler {
 
 impl Garbler {
     /// A garbler that has made no call of π yet.
-    pub fn new(scheme: Scheme, seed: &[u8; BLOCK]) -> Garbler {
-        let seed = Seed::new(seed);
+    pub fn new(scheme: Scheme, seed: Seed) -> Garbler {
         Garbler {
             scheme,
             offset: seed.offset(),

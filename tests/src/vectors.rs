@@ -13,6 +13,7 @@ use crate::lines;
 use crate::listed;
 use crate::one_operand;
 use crate::random::Random;
+use crate::runs;
 
 /// A file of cases, a line each.
 #[derive(Clone, Debug)]
@@ -82,6 +83,8 @@ pub fn files() -> Vec<File> {
     add("chain-generated", chained::cases());
     add("chain-one-operand", one_operand::chains());
     add("garble-large", large_cases());
+    add("garble-runs", runs::garblings());
+    add("chain-runs", runs::chains());
     files
 }
 

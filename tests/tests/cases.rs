@@ -1,4 +1,5 @@
-//! Every stored case of a third reading of 01, and of 01 with 02's job 2: answers and whole buffers.
+//! Every stored case of a third reading of 01, of 01 with 02's job 2, and of 01 with 02's jobs 2 and 4:
+//! answers and whole buffers.
 
 use std::collections::BTreeMap;
 
@@ -20,7 +21,8 @@ const BASE: Counts = [
     ("program", 31),
 ];
 
-const JOB02: Counts = [
+/// Of 01 with jobs of 02: each of these files has as many.
+const AMENDED: Counts = [
     ("check", 38),
     ("decode", 38),
     ("encode", 37),
@@ -66,5 +68,10 @@ fn all_cases_agree() {
 
 #[test]
 fn all_cases_with_one_operand_agree() {
-    compare_all(include_str!("../data/job02.jsonl"), JOB02);
+    compare_all(include_str!("../data/job02.jsonl"), AMENDED);
+}
+
+#[test]
+fn all_cases_with_runs_agree() {
+    compare_all(include_str!("../data/job04.jsonl"), AMENDED);
 }

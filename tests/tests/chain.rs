@@ -1,4 +1,4 @@
-//! The chain garble, encode, evaluate, decode of demand 3, on one circuit (01, Operations).
+//! The chain garble, encode, evaluate, decode of demand 3, on one circuit (01, Operations; 02, job 4).
 
 use std::collections::BTreeSet;
 
@@ -32,8 +32,15 @@ fn rows_and_calls(scheme: Scheme) -> (usize, usize) {
     }
 }
 
+/// A seed, and which of its garblings is meant.
+#[derive(Clone, Copy)]
+struct Source {
+    seed: [u8; BLOCK],
+    run: u64,
+}
+
 /// Runs the chain in buffers of exactly the bytes named, and checks what the calls return.
-fn run(bytes: &[u8], scheme: Scheme, seed: &[u8], values: &[u8]) -> Chain {
+fn run(bytes: &[u8], scheme: Scheme, source: Source, values: &[u8]) -> Chain {
     let circuit = Circuit::read(bytes).expect("an accepted circuit");
     let sizes = circuit.sizes();
     let Sizes { n, m, p, .. } = sizes;
@@ -42,8 +49,16 @@ fn run(bytes: &[u8], scheme: Scheme, seed: &[u8], values: &[u8]) -> Chain {
     let (mut material, mut zeros) = (vec![0; length], vec![0; BLOCK * sizes.wires()]);
     let (mut ones, mut tokens) = (vec![0; BLOCK * n], vec![0; BLOCK * n]);
     let (mut held, mut decoded) = (vec![0; BLOCK * sizes.wires()], vec![0; m]);
-    let byte = scheme.byte();
-    let garbled = garble(bytes, seed, byte, &mut material, &mut zeros, &mut ones);
+    let (Source { seed, run }, byte) = (source, scheme.byte());
+    let garbled = garble(
+        bytes,
+        &seed,
+        run,
+        byte,
+        &mut material,
+        &mut zeros,
+        &mut ones,
+    );
     let returned = garbled.map(|garbled| (garbled.length, garbled.calls));
     assert_eq!(returned, Ok((length as u64, 4 * p as u64)));
     assert_eq!(
@@ -74,13 +89,13 @@ fn check_list_form(circuit: &Circuit, tokens: &[u8], material: &[u8], calls: u64
     assert!(by_list == held, "list form: other tokens");
 }
 
-/// Demand 3: the distance on every wire, and the decoded bits.
-fn check_chain(bytes: &[u8], scheme: Scheme, seed: &[u8; BLOCK], values: &[u8], name: &str) {
+/// Demand 3: the distance on every wire, which is R of the run, and the decoded bits.
+fn check_chain(bytes: &[u8], scheme: Scheme, source: Source, values: &[u8], name: &str) {
     let Sizes { m, n, q, .. } = Circuit::read(bytes).expect("an accepted circuit").sizes();
     let mut carried = vec![0; n + q];
     assert_eq!(plain(bytes, values, &mut carried), Ok(()));
-    let chain = run(bytes, scheme, seed, values);
-    let offset = Seed::new(seed).offset();
+    let chain = run(bytes, scheme, source, values);
+    let offset = Seed::new(&source.seed, source.run).offset();
     assert!(offset.colour().0 && offset != Block::ZERO);
     let (zeros, held) = (Block::list(&chain.zeros), Block::list(&chain.held));
     for (index, &value) in carried.iter().enumerate() {
@@ -92,11 +107,14 @@ fn check_chain(bytes: &[u8], scheme: Scheme, seed: &[u8; BLOCK], values: &[u8], 
     assert_eq!(chain.decoded, carried[n + q - m..], "{name}, {scheme:?}");
 }
 
-fn seed_block(random: &mut Random) -> [u8; BLOCK] {
-    Block::list(&generate::seed(random))[0].0
+/// Any seed and any run.
+fn source(random: &mut Random) -> Source {
+    let seed = Block::list(&generate::seed(random))[0].0;
+    let run = generate::run(random);
+    Source { seed, run }
 }
 
-/// And with every pair of colours of the operands' zero tokens.
+/// And with every pair of colours of the operands' zero tokens, in run 0.
 #[test]
 fn every_code_on_every_pair_of_values() {
     let mut random = Random::new(11);
@@ -108,7 +126,7 @@ fn every_code_on_every_pair_of_values() {
             let colours = [round / 8 == 1, round / 4 % 2 == 1].map(Colour);
             let name = format!("code {code}, values {values:?}, {colours:?}");
             let seed = Block::list(&coloured_seed(&mut random, colours))[0].0;
-            check_chain(&bytes, scheme, &seed, &values, &name);
+            check_chain(&bytes, scheme, Source { seed, run: 0 }, &values, &name);
         }
     }
 }
@@ -122,9 +140,10 @@ fn random_circuits() {
         let circuit = Circuit::read(&bytes).expect("an accepted circuit");
         codes.extend(circuit.gates().map(|(_, gate)| gate.code));
         let values = generate::values(&mut random, circuit.sizes().n);
-        let seed = seed_block(&mut random);
+        let source = source(&mut random);
+        let name = format!("round {round}, run {}", source.run);
         for scheme in SCHEMES {
-            check_chain(&bytes, scheme, &seed, &values, &format!("round {round}"));
+            check_chain(&bytes, scheme, source, &values, &name);
         }
     }
     assert_eq!(codes.into_iter().collect::<Vec<u8>>(), CODES);
@@ -137,10 +156,10 @@ fn largest_circuits() {
         let bytes = generate::circuit(&mut random, n, q, charged);
         let bytes = generate::with_one_operand(&mut random, bytes);
         let values = generate::values(&mut random, usize::from(n));
-        let seed = seed_block(&mut random);
+        let source = source(&mut random);
+        let name = format!("n {n}, q {q}, charged {charged}, run {}", source.run);
         for scheme in SCHEMES {
-            let name = format!("n {n}, q {q}, charged {charged}");
-            check_chain(&bytes, scheme, &seed, &values, &name);
+            check_chain(&bytes, scheme, source, &values, &name);
         }
     }
 }
@@ -151,7 +170,10 @@ fn seed_that_is_the_key_of_pi() {
     let bytes = generate::circuit(&mut random, 5, 30, 70);
     let values = generate::values(&mut random, 5);
     let seed = std::array::from_fn(|i| i as u8);
-    for scheme in SCHEMES {
-        check_chain(&bytes, scheme, &seed, &values, "the key of π as seed");
+    for run in generate::RUNS {
+        for scheme in SCHEMES {
+            let source = Source { seed, run };
+            check_chain(&bytes, scheme, source, &values, "the key of π as seed");
+        }
     }
 }

@@ -82,7 +82,12 @@ fn compare_with_module(input: &[u8], name: &str) {
 fn stored_cases() {
     let base = include_str!("../data/base.jsonl");
     let job02 = include_str!("../data/job02.jsonl");
-    for (name, text, due) in [("base", base, 31), ("job02", job02, 18)] {
+    let job04 = include_str!("../data/job04.jsonl");
+    for (name, text, due) in [
+        ("base", base, 31),
+        ("job02", job02, 18),
+        ("job04", job04, 18),
+    ] {
         let mut count = 0;
         for case in &cases::read(text).expect("readable cases") {
             if let Asked::Program { input, output } = &case.asked {

@@ -5,3 +5,4 @@ pub mod file;
 pub mod fill;
 pub mod line;
 pub mod room;
+pub mod setting;

@@ -7,6 +7,8 @@
 -- 1. Decoding the tokens that evaluation left on the outputs, with the same material, gives exactly the bits that the plain circuit
 -- carries there, in the order of the outputs."
 --
+-- With a run number (02, job 4), for each of them: "the tokens' distance is R of that run."
+--
 -- Letters: c is the circuit's bytes, v the value list. The six buffers are the material f, the zero tokens z, the one tokens o, the
 -- encoded tokens t, the tokens of all wires w and the bits b; f′, z′, o′, t′, w′, b′ are they when the chain has ended.
 use Prim.Native.Nat.{ℕ, _+_, _*_, _≤_}

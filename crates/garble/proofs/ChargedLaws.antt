@@ -7,7 +7,8 @@ use mathlib.Core.Bool.{Bool, true, false, cond}
 use borrow.Author.Tests.{ne-eqb, eqb-true, eqb-false}
 use lib.Dec.{eqb}
 use Rattle.model.specs.Bytes.{put}
-use Rattle.model.specs.Aes.{Block, block, cipher}
+use Rattle.model.specs.Aes.{Block, cipher}
+use Rattle.model.specs.Tokens.{runBlock}
 use Rattle.model.specs.Scheme as Model
 use Rattle.model.specs.Gax.{dualKey, valueAt, sealed, rowAt}
 use Rattle.model.specs.Gaxr.{reducedZero, gaxr}
@@ -16,19 +17,21 @@ use Rattle.model.specs.Garbling.{schemeOf}
 use Rattle.model.specs.Calls.{garbleAsks}
 use Rattle.model.proofs.Calls.{garble-asks-four}
 use Rattle.model.proofs.Places.{stored-low, stored-high}
+use Rattle.model.specs.declared.Wanted.{Wanted}
 use Rattle.block.specs.declared.Block as Struct
 use Rattle.scheme.specs.Garbled.{site, GarbledIs}
 use Rattle.scheme.specs.declared.Site.{Site}
 use Rattle.scheme.specs.declared.GarbledGate.{GarbledGate}
 use Rattle.garble.specs.declared.gate.GateIn.{GateIn}
+use Rattle.garble.specs.declared.plan.Plan.{Plan}
 use Rattle.garble.specs.Walk.{WriterRoom, writtenRecord, FreshIs, siteAt, ChargedStart, ChargedIs}
 
 -- ---- fresh_block
-module _ (w : List ℕ) (scheme g : ℕ) (r : Block) where
-  pub fresh-gax : r ≡ cipher w (block g) → FreshIs w scheme g r
+module _ (w : List ℕ) (want : Wanted) (g : ℕ) (r : Block) where
+  pub fresh-gax : r ≡ cipher w (runBlock (want .run) g) → FreshIs w want g r
   fresh-gax e = record { if-gax = λ h. e }
 
-  pub fresh-other : (scheme ≡ 1 → ⊥) → FreshIs w scheme g r
+  pub fresh-other : (want .scheme ≡ 1 → ⊥) → FreshIs w want g r
   fresh-other h = record { if-gax = λ e. absurd (h e) }
 
 -- ---- two sites that differ in `fresh` alone
@@ -70,33 +73,39 @@ module _ (k : ℕ) (h : k ≡ 1 → ⊥) (f : Block) (s : Model.Site) where
       go true = gaxr-rows f s
       go false = half-rows f s
 
--- a gate garbled with what `fresh_block` gave is garbled as the site says
-module _ (w : List ℕ) (k : ℕ) (f R : Block) (g : GateIn) (fresh : FreshIs w k (g .own .0) f) (made : GarbledGate)
-    (is : GarbledIs (schemeOf k) (garbleAsks k (refreshed f (siteAt w R g))) (refreshed f (siteAt w R g)) made) where
-  of-gax : k ≡ 1 → GarbledIs (schemeOf k) (garbleAsks k (siteAt w R g)) (siteAt w R g) made
+-- a gate garbled by scheme k as a site says
+abbrev Made : ℕ → Model.Site → GarbledGate → Type 0
+Made k s made = GarbledIs (schemeOf k) (garbleAsks k s) s made
+
+-- what was garbled with what `fresh_block` gave is garbled as the site says
+module _ (w : List ℕ) (p : Plan) (f : Block) (g : GateIn) (made : GarbledGate) (fresh : FreshIs w (p .wanted) (g .own .0) f)
+    (is : Made (p .wanted .scheme) (refreshed f (siteAt w p g)) made) where
+  of-gax : p .wanted .scheme ≡ 1 → Made (p .wanted .scheme) (siteAt w p g) made
   unfolding refreshed siteAt
   of-gax e = rw (fresh .if-gax e) at is
 
-  of-other : (k ≡ 1 → ⊥) → GarbledIs (schemeOf k) (garbleAsks k (siteAt w R g)) (siteAt w R g) made
-  of-other h = record {
-    is-zero = is .is-zero ∙ other-zero k h f (siteAt w R g);
-    is-rows = is .is-rows ∙ other-rows k h f (siteAt w R g);
-    is-calls = is .is-calls ∙ garble-asks-four k (refreshed f (siteAt w R g)) ∙ sym (garble-asks-four k (siteAt w R g));
-  }
+  of-other : (p .wanted .scheme ≡ 1 → ⊥) → Made (p .wanted .scheme) (siteAt w p g) made
+  of-other h =
+      let k = p .wanted .scheme in
+      record {
+        is-zero = is .is-zero ∙ other-zero k h f (siteAt w p g);
+        is-rows = is .is-rows ∙ other-rows k h f (siteAt w p g);
+        is-calls = is .is-calls ∙ garble-asks-four k (refreshed f (siteAt w p g)) ∙ sym (garble-asks-four k (siteAt w p g));
+      }
 
-  gate-is : GarbledIs (schemeOf k) (garbleAsks k (siteAt w R g)) (siteAt w R g) made
-  gate-is = go (eqb k 1) refl
+  gate-is : Made (p .wanted .scheme) (siteAt w p g) made
+  gate-is = go (eqb (p .wanted .scheme) 1) refl
     where
-      go : (b : Bool) → eqb k 1 ≡ b → GarbledIs (schemeOf k) (garbleAsks k (siteAt w R g)) (siteAt w R g) made
-      go true e = of-gax (eqb-true k 1 e)
-      go false e = of-other (eqb-false k 1 e)
+      go : (b : Bool) → eqb (p .wanted .scheme) 1 ≡ b → Made (p .wanted .scheme) (siteAt w p g) made
+      go true e = of-gax (eqb-true (p .wanted .scheme) 1 e)
+      go false e = of-other (eqb-false (p .wanted .scheme) 1 e)
 
--- ---- make_charged: at the gate g, with the offset r and what `fresh_block` gave
-pub make-done : (w : List ℕ) (k : ℕ) (r f : Struct.Block) (g : GateIn) (made : GarbledGate) → FreshIs w k (g .own .0) (f .bytes)
-    → (let s : Site = record { r = r; fresh = f; g = g .own; code = g .code; xa = g .xa; xb = g .xb } in GarbledIs (schemeOf k) (garbleAsks k (site s)) (site s) made)
-    → GarbledIs (schemeOf k) (garbleAsks k (siteAt w (r .bytes) g)) (siteAt w (r .bytes) g) made
+-- ---- make_charged: at the gate g, by the plan p, with what `fresh_block` gave
+pub make-done : (w : List ℕ) (p : Plan) (f : Struct.Block) (g : GateIn) (made : GarbledGate) → FreshIs w (p .wanted) (g .own .0) (f .bytes)
+    → (let s : Site = record { r = p .r; fresh = f; g = g .own; code = g .code; xa = g .xa; xb = g .xb } in Made (p .wanted .scheme) (site s) made)
+    → Made (p .wanted .scheme) (siteAt w p g) made
 unfolding site
-make-done w k r f g made fresh is = gate-is w k (f .bytes) (r .bytes) g fresh made (unfold refreshed siteAt in is)
+make-done w p f g made fresh is = gate-is w p (f .bytes) g made fresh (unfold refreshed siteAt in is)
 
 -- ---- garble_charged
 
@@ -109,10 +118,10 @@ module _ (scheme stored code u v x : ℕ) (m : List ℕ) (at : ℕ) (z : List �
     room = rw (start .is-stored) (omega (arith, start .record-room));
   }
 
-  pub charged-done : (w : List ℕ) (R : Block) (g : GateIn) (made : GarbledGate) → GarbledIs (schemeOf scheme) (garbleAsks scheme (siteAt w R g)) (siteAt w R g) made
+  pub charged-done : (w : List ℕ) (p : Plan) (g : GateIn) (made : GarbledGate) → Made scheme (siteAt w p g) made
       → (m′ z′ : List ℕ) → z′ ≡ put z slot (made .zero .bytes) → m′ ≡ put m at (writtenRecord (g .own .0) stored made)
-      → ChargedIs scheme (siteAt w R g) m at z slot m′ z′ (made .calls)
-  charged-done w R g made is m′ z′ is-z is-m = record {
+      → ChargedIs scheme (siteAt w p g) m at z slot m′ z′ (made .calls)
+  charged-done w p g made is m′ z′ is-z is-m = record {
     zeros-left = rw (is .is-zero) at is-z;
     material-left = is-m ∙ unfold writtenRecord siteAt in (rw (start .is-stored, is .is-rows));
     calls-made = is .is-calls;

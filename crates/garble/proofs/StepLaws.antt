@@ -24,7 +24,7 @@ use Rattle.model.proofs.Circuits.{charges-le}
 use Rattle.model.proofs.Places.{length-last, last-high, record-fits, record-high}
 use Rattle.model.proofs.Buffers.{put-none}
 use Rattle.model.proofs.Codes.{Used, used-charged, used-free, FreeTable, code-means}
-use Rattle.model.proofs.Bits.{Bit, b0, b1}
+use Rattle.model.proofs.Bits.{bit-small}
 use Rattle.model.proofs.Blocks.{Blocks, blocks-length, join-at}
 use Rattle.model.proofs.Lengths.{input-zeros-blocks, zeros-blocks}
 use Rattle.model.proofs.Accepted.{GateHolds, accepted-header, accepted-gate}
@@ -32,10 +32,6 @@ use Rattle.circuit.specs.Answers.{meaning}
 use Rattle.garble.specs.Walk.{zerosTo, siteAt, WalkOf, OperandsStart, GateInIs, StepStart, StepIs, ChargedStart, ChargedIs}
 use Rattle.garble.specs.declared.plan.Plan.{Plan}
 use Rattle.garble.specs.declared.gate.GateIn.{GateIn}
-
-bit-low : {x : ℕ} → Bit x → x ≤ 1
-bit-low b0 = omega arith
-bit-low b1 = omega arith
 
 not-refused : (k : Kind) → Used k → k ≡ refused → ⊥
 not-refused _ used-charged e = let z : _≡_ {A = ℕ} 0 1 = cc in omega arith
@@ -86,9 +82,9 @@ module _ (c seed : List ℕ) (want : Wanted) (plan : Plan) (w : List ℕ) (walk 
       own-is : g .own .0 ≡ suc (length (zerosTo c seed want k))
       own-is = is-g .is-own ∙ omega (arith, blocks-length (zeros-many k), walk .plan-is .is-n)
 
-      site-is : siteAt w (plan .r .bytes) g ≡ siteOf (garblingOf c seed want) (zerosTo c seed want k) (gateAt c k)
+      site-is : siteAt w plan g ≡ siteOf (garblingOf c seed want) (zerosTo c seed want k) (gateAt c k)
       unfolding siteAt siteOf seedBlock aes
-      site-is = rw (walk .is-schedule, offset-is, own-is, is-g .is-code, xa-is, xb-is)
+      site-is = rw (walk .is-schedule, walk .plan-is .is-wanted, offset-is, own-is, is-g .is-code, xa-is, xb-is)
 
       -- the kind as `code_kind` gave it
       module _ (kind : Kinds.Kind) (is-kind : meaning kind ≡ kindOf (g .code)) where
@@ -116,10 +112,10 @@ module _ (c seed : List ℕ) (want : Wanted) (plan : Plan) (w : List ℕ) (walk 
           }
 
           pub step-charged : (m′ z′ : List ℕ) (calls : ℕ)
-              → ChargedIs (want .scheme) (siteAt w (plan .r .bytes) g) m at z (16 * (plan .n + k)) m′ z′ calls
+              → ChargedIs (want .scheme) (siteAt w plan g) m at z (16 * (plan .n + k)) m′ z′ calls
               → StepIs c seed want k at m z (at + plan .stride) calls m′ z′
           step-charged m′ z′ calls done = record {
-            zeros-left = done .zeros-left ∙ rw (walk .plan-is .is-n, site-is) (unfold zeroStep zeroAt in (rw charged-is));
+            zeros-left = done .zeros-left ∙ rw (site-is, walk .plan-is .is-n) (unfold zeroStep zeroAt in (rw charged-is));
             material-left = done .material-left ∙ rw site-is (unfold recordOf in (rw charged-is));
             is-next = rw (charged-is, one-mul, walk .plan-is .is-stride);
             calls-made = done .calls-made ∙ rw site-is (unfold garbleCallsAt in (rw charged-is));
@@ -133,7 +129,7 @@ module _ (c seed : List ℕ) (want : Wanted) (plan : Plan) (w : List ℕ) (walk 
           pub step-bits : (p .0 ≤ 1) × (q .0 ≤ 1) × (d .0 ≤ 1)
           step-bits =
               let t : FreeTable (value (gateAt c k .code)) (p .0) (q .0) (d .0) = rw free-is at (code-means (gateAt c k .code)) in
-              (bit-low (t .bit-p), bit-low (t .bit-q), bit-low (t .bit-c))
+              (bit-small (t .bit-p), bit-small (t .bit-q), bit-small (t .bit-c))
 
           pub step-free : (x z′ : List ℕ) → x ≡ freeZero (p .0) (q .0) (d .0) (plan .r .bytes) (g .xa .bytes) (g .xb .bytes) → z′ ≡ put z (16 * (plan .n + k)) x → StepIs c seed want k at m z at 0 m z′
           step-free x z′ is-x is-z = record {

@@ -21,6 +21,7 @@ use Rattle.model.proofs.Blocks.{join-length}
 use Rattle.model.proofs.Lengths.{input-zeros-blocks, header-length, material-length}
 use Rattle.circuit.proofs.AcceptedLaws as Sized
 use Rattle.garble.specs.declared.plan.Plan.{Plan}
+use Rattle.garble.specs.Written.{inputZero}
 use Rattle.garble.specs.Walk.{PlanIs, WalkOf, FrontStart, FrontIs, BodyStart, BodyIs}
 use Rattle.garble.specs.Whole.{WholeStart, WholeIs}
 use Rattle.garble.proofs.WalkLaws.{zeros-long}
@@ -35,9 +36,9 @@ module _ (c seed : List ℕ) (want : Wanted) (s : Sizes) (m z o : List ℕ) (sta
   is-q : s .q ≡ gates c
   is-q = Sized.is-q c s (start .sized)
 
-  pub whole-front : FrontStart (s .n) m z o
+  front-start : FrontStart (s .n) m z o
   unfolding materialLength
-  whole-front = record {
+  front-start = record {
     header-room = omega (arith, start .file-room);
     zeros-room = omega (arith, start .wires-room, is-n);
     ones-room = omega (arith, start .inputs-room, is-n);
@@ -65,21 +66,24 @@ module _ (c seed : List ℕ) (want : Wanted) (s : Sizes) (m z o : List ℕ) (sta
         go : (x : List ℕ) (y : Wanted) → x ≡ k → y ≡ want → WalkOf c x y plan w
         go x y e f = rw (e, f) (record { accepted = start .sized .accepted; known = start .known; plan-is = rw (← is-n) is-plan; is-schedule = is-w })
 
+    pub whole-front : FrontStart (plan .n) m z o
+    whole-front = rw (is-plan .is-n) front-start
+
     -- the fronts as they were written
-    module _ (m1 z1 o1 : List ℕ) (front : FrontIs w (plan .r .bytes) (plan .wanted .scheme) (s .n) (s .m) (s .q) m z o m1 z1 o1) where
+    module _ (m1 z1 o1 : List ℕ) (front : FrontIs w plan (s .n) (s .m) (s .q) m z o m1 z1 o1) where
       header-is : m1 ≡ over (header (garblingOf c seed want)) m
       unfolding header circuitOf
       header-is = front .header-is ∙ rw (is-plan .is-wanted, is-n, is-m, is-q, outputs-many c, tabulate-length)
 
       zeros-are : z1 ≡ over (joinBlocks (inputZeros (garblingOf c seed want))) z
-      unfolding inputZeros seedBlock aes circuitOf
-      zeros-are = front .inputs-are .zeros-left ∙ rw (schedule, is-n)
+      unfolding inputZeros seedBlock aes circuitOf inputZero
+      zeros-are = front .inputs-are .zeros-left ∙ rw (schedule, is-plan .is-wanted, is-plan .is-n, is-n)
 
       ones-are : o1 ≡ over (joinBlocks (inputOnes (garblingOf c seed want))) o
-      unfolding inputOnes inputZeros oneToken seedBlock aes circuitOf
+      unfolding inputOnes inputZeros oneToken seedBlock aes circuitOf inputZero
       ones-are =
           front .inputs-are .ones-left
-          ∙ rw (offset-is, schedule, is-n)
+          ∙ rw (offset-is, schedule, is-plan .is-wanted, is-plan .is-n, is-n)
           (ap (λ (l : List Block). over (joinBlocks l) o) (sym (tabulate-map (oneToken (garblingOf c seed want)) (inputs c) (λ i. seedBlock (garblingOf c seed want) (i + 1)))))
 
       inputs-long : length (joinBlocks (inputZeros (garblingOf c seed want))) ≡ 16 * inputs c
@@ -90,7 +94,7 @@ module _ (c seed : List ℕ) (want : Wanted) (s : Sizes) (m z o : List ℕ) (sta
       header-long = header-length (garblingOf c seed want)
 
       material-same : length m1 ≡ length m
-      material-same = ap length header-is ∙ over-length (header (garblingOf c seed want)) m (omega (arith, header-long, whole-front .header-room))
+      material-same = ap length header-is ∙ over-length (header (garblingOf c seed want)) m (omega (arith, header-long, front-start .header-room))
 
       zeros-same : length z1 ≡ length z
       zeros-same = ap length zeros-are ∙ over-length (joinBlocks (inputZeros (garblingOf c seed want))) z (omega (arith, inputs-long, start .wires-room))

@@ -12,6 +12,7 @@ use crate::plan::Plan;
 use crate::seed::seed_block_fast;
 use block::Block;
 use model::Truth;
+use model::Wanted;
 use model::Wire;
 use scheme::GarbledGate;
 use scheme::Site;
@@ -25,13 +26,13 @@ pub struct GateIn {
     pub xb: Block,
 }
 
-// What scheme 1 takes for a gate's zero token: AES under the seed of block g. The other schemes make the token themselves.
-fn fresh_block(tables: &[u32; 1024], ws: &[u8; 176], scheme: u8, own: Wire) -> Block
+// What scheme 1 takes for a gate's zero token: the seed's block of wire g. The other schemes make the token themselves.
+fn fresh_block(tables: &[u32; 1024], ws: &[u8; 176], wanted: Wanted, own: Wire) -> Block
     requires { ⌜ IsTTables (now tables) ⌝ }
-    ensures { λ r. ⌜ FreshIs (now (ws .entry)) scheme (own .0) (r .bytes) ⌝ }
+    ensures { λ r. ⌜ FreshIs (now (ws .entry)) wanted (own .0) (r .bytes) ⌝ }
 {
-    if scheme == 1 {
-        seed_block_fast(tables, ws, own.0 as usize)
+    if wanted.scheme == 1 {
+        seed_block_fast(tables, ws, wanted.run, own.0 as usize)
     } else {
         Block::of_number(0)
     }
@@ -51,14 +52,14 @@ pub fn make_charged(
     requires { ⌜ Lent (now tables) (now w) ⌝ }
     requires { ⌜ Known (plan .wanted .scheme) ⌝ }
     requires { ⌜ kindOf (g .code) ≡ charged (u .0) (v .0) (own .0) ⌝ }
-    ensures { λ r. ⌜ GarbledIs (schemeOf (plan .wanted .scheme)) (garbleAsks (plan .wanted .scheme) (siteAt (now (ws .entry)) (plan .r .bytes) g)) (siteAt (now (ws .entry)) (plan .r .bytes) g) r ⌝ }
+    ensures { λ r. ⌜ GarbledIs (schemeOf (plan .wanted .scheme)) (garbleAsks (plan .wanted .scheme) (siteAt (now (ws .entry)) plan g)) (siteAt (now (ws .entry)) plan g) r ⌝ }
 {
     let scheme = plan.wanted.scheme;
     let wire = g.own;
     let r = plan.r;
     let xa = g.xa;
     let xb = g.xb;
-    let fresh = fresh_block(tables, ws, scheme, wire);
+    let fresh = fresh_block(tables, ws, plan.wanted, wire);
     let site = Site {
         r,
         fresh,

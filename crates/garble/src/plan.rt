@@ -26,7 +26,7 @@ pub fn plan_of(t: &[u8; 256], ws: &[u8; 176], seed: Block, wanted: Wanted, n: us
 {
     let stored = rows_stored(wanted.scheme);
     let stride = record_length(wanted.scheme);
-    let r = seed_block(t, ws, 0).coloured();
+    let r = seed_block(t, ws, wanted.run, 0).coloured();
     Plan {
         wanted,
         seed,

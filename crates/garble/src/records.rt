@@ -73,7 +73,7 @@ pub fn garble_charged(
 ) -> usize
     requires { ⌜ Lent (now tables) (now w) ⌝ }
     requires { ⌜ ChargedStart (plan .wanted .scheme) (plan .stored) (g .code) (u .0) (v .0) (own .0) (now material) at (now zeros) slot ⌝ }
-    ensures { λ r. ⌜ ChargedIs (plan .wanted .scheme) (siteAt (now (ws .entry)) (plan .r .bytes) g) (now (material .entry)) at (now (zeros .entry)) slot (now (material .exit)) (now (zeros .exit)) r ⌝ }
+    ensures { λ r. ⌜ ChargedIs (plan .wanted .scheme) (siteAt (now (ws .entry)) plan g) (now (material .entry)) at (now (zeros .entry)) slot (now (material .exit)) (now (zeros .exit)) r ⌝ }
 {
     let wire = g.own;
     let made = make_charged(tables, w, ws, plan, g, u, v, own);

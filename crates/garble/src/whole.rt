@@ -29,10 +29,10 @@ fn garble_front(
     ones: &mut [u8],
 )
     requires { ⌜ IsSBox (now t) ⌝ }
-    requires { ⌜ FrontStart (z .n) (now material) (now zeros) (now ones) ⌝ }
-    ensures { λ _. ⌜ FrontIs (now (ws .entry)) (plan .r .bytes) (plan .wanted .scheme) (z .n) (z .m) (z .q) (now (material .entry)) (now (zeros .entry)) (now (ones .entry)) (now (material .exit)) (now (zeros .exit)) (now (ones .exit)) ⌝ }
+    requires { ⌜ FrontStart (plan .n) (now material) (now zeros) (now ones) ⌝ }
+    ensures { λ _. ⌜ FrontIs (now (ws .entry)) plan (z .n) (z .m) (z .q) (now (material .entry)) (now (zeros .entry)) (now (ones .entry)) (now (material .exit)) (now (zeros .exit)) (now (ones .exit)) ⌝ }
 {
-    garble_inputs(t, ws, plan.r, z.n, zeros, ones);
+    garble_inputs(t, ws, plan, zeros, ones);
     write_header(material, plan.wanted.scheme, z.n, z.m, z.q);
 }
 

@@ -3,13 +3,15 @@ use cases::answer::garbled;
 use cases::answer::room_at;
 use cases::fill::left;
 use cases::room;
+use cases::setting::fits;
+use cases::setting::wanted;
 use model::Wanted;
 
 // Garble on three buffers: the answer, and what each buffer holds after it.
 fn garble_leaves(
     circuit: &[u8],
     seed: &[u8],
-    scheme: u8,
+    wanted: Wanted,
     before: u8,
     answer: &[u8],
     material: &[u8],
@@ -19,14 +21,14 @@ fn garble_leaves(
     y: &mut [u8],
     z: &mut [u8],
 ) -> bool {
-    let g = garble::garble(circuit, seed, Wanted { scheme }, x, y, z);
+    let g = garble::garble(circuit, seed, wanted, x, y, z);
     let x_left = left(answer, before, material, x);
     let y_left = left(answer, before, zeros, y);
     let z_left = left(answer, before, ones, z);
     garbled(g, answer) & x_left & y_left & z_left
 }
 
-// Circuit, seed, setting (scheme, fill, the lengths of three buffers: 1 byte, 1 and 4 each), the answer, and the buffers.
+// Circuit, seed, setting (scheme, fill, the lengths of three buffers: 1 byte, 1 and 4 each; the run number: none, or 8), the answer, and the buffers.
 pub fn garble_run(
     circuit: &[u8],
     seed: &[u8],
@@ -36,7 +38,10 @@ pub fn garble_run(
     zeros: &[u8],
     ones: &[u8],
 ) -> bool {
-    if setting.len() != 14 {
+    if setting.len() < 14 {
+        return false;
+    }
+    if !fits(setting, 14) {
         return false;
     }
     let before = setting[1];
@@ -49,7 +54,7 @@ pub fn garble_run(
     garble_leaves(
         circuit,
         seed,
-        setting[0],
+        wanted(setting, 14),
         before,
         answer,
         material,

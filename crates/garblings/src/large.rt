@@ -1,5 +1,5 @@
 // Whether a large garbling agrees. The case is 86 bytes: the circuit's rule (n, m, q and the period of 2 bytes each, the
-// generator's start of 4), the seed, the scheme, the answer (00, the length and the calls), and the fingerprints of the
+// generator's start of 4), the seed, the scheme (its run number is 0), the answer (00, the length and the calls), and the fingerprints of the
 // material, the zero tokens and the one tokens. No such case is refused.
 ghost use Prim.Native.Nat.{_<_};
 use crate::fingerprint::fingerprint;
@@ -69,7 +69,10 @@ fn garble_made(case: &[u8; 86], circuit: &[u8]) -> bool {
     let g = garble::garble(
         circuit,
         &seed,
-        Wanted { scheme: case[28] },
+        Wanted {
+            run: 0,
+            scheme: case[28],
+        },
         &mut material,
         &mut zeros,
         &mut ones,

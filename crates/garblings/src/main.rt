@@ -23,5 +23,6 @@ fn main() {
     run_file(false, b"garble");
     run_file(false, b"garble-generated");
     run_file(false, b"garble-one-operand");
+    run_file(false, b"garble-runs");
     run_file(true, b"garble-large");
 }

@@ -3,12 +3,13 @@ use mathlib.Core.Path.{refl}
 use Rattle.model.specs.Bytes.{be16, number, bytesOf}
 use Rattle.model.specs.Circuit.{value, kinds, kindOf, charges, markAt, inputs, outputs, gates, gateAt, lastWires, circuitOf, sizesHold, operandsHold, wires, gateValue, plainValues}
 use Rattle.model.specs.Aes.{_⊕_, block, times, xtime, mulBits, gmul, squares, inverse, bit, affineBit, affineBits, sBox, double, quadruple}
+use Rattle.model.specs.Tokens.{runBlock}
 use Rattle.model.specs.Refusals.{refuse, _then_, firstOf, headVerdict, gateVerdict, recordVerdict, circuitVerdict}
 use Rattle.model.specs.Operations.{sizesOf}
 use Rattle.model.specs.Examples.{Examples}
 
 pub examples : Examples
-unfolding be16 number bytesOf value kinds kindOf charges markAt inputs outputs gates gateAt lastWires circuitOf sizesHold operandsHold wires gateValue plainValues _⊕_ block times xtime mulBits gmul squares inverse bit affineBit affineBits sBox double quadruple refuse _then_ firstOf headVerdict gateVerdict recordVerdict circuitVerdict sizesOf
+unfolding be16 number bytesOf value kinds kindOf charges markAt inputs outputs gates gateAt lastWires circuitOf sizesHold operandsHold wires gateValue plainValues _⊕_ block times xtime mulBits gmul squares inverse bit affineBit affineBits sBox double quadruple runBlock refuse _then_ firstOf headVerdict gateVerdict recordVerdict circuitVerdict sizesOf
 examples = record {
   P1 = refl;
   P2 = refl;
@@ -37,4 +38,7 @@ examples = record {
   unused-operand = refl;
   fifteen = refl;
   sixteen = refl;
+  first-run = refl;
+  second-run = refl;
+  long-run = refl;
 }

@@ -1,5 +1,5 @@
 -- What document 02 says of what was there before. Assumes nothing.
-use Prim.Native.Nat.{ℕ, zero, suc, _+_, _≤_, _<_}
+use Prim.Native.Nat.{ℕ, zero, suc, _+_, _^_, _≤_, _<_}
 use native.Mathlib.Decide.{decLt}
 use native.Mathlib.Nat.{le-of-suc-le-suc, not-suc-le-zero}
 use native.Mathlib.Omega.{arith}
@@ -8,28 +8,31 @@ use mathlib.Core.Bool.{Bool, true, false, cond, _||_}
 use mathlib.Core.List.{List, [], _∷_, _++_}
 use borrow.Author.Tests.{le-leb, eqb-true}
 use lib.Dec.{eqb, leb}
-use lib.ListN.{length, getD, take, drop}
+use lib.ListN.{length, length-append, getD, take, drop}
+use lib.Seq.{take-at, drop-at}
 use Rattle.model.specs.declared.Gate.{Gate}
-use Rattle.model.specs.Bytes.{from, tabulate}
+use Rattle.model.specs.Bytes.{from, tabulate, number, bytesOf}
 use Rattle.model.specs.Circuit.{Circuit, Kind, charged, free, refused, kinds, kindOf, value, charges, codeAt, circuitOf, inputs, gates, gateAt, gateWire, wire, wires, gateValue, plainValues}
-use Rattle.model.specs.Aes.{Block, _⊕_, block, times}
-use Rattle.model.specs.Tokens.{Garbling, offset, inputZeros, freeZero, freeToken}
+use Rattle.model.specs.Aes.{Block, _⊕_, block, times, aes}
+use Rattle.model.specs.Tokens.{Garbling, coloured, runBlock, seedBlock, offset, inputZeros, oneToken, freeZero, freeToken}
 use Rattle.model.specs.Scheme.{Site, Scheme, recordLength}
 use Rattle.model.specs.Gax.{dualKey, gax}
 use Rattle.model.specs.Gaxr.{gaxr}
 use Rattle.model.specs.HalfGates.{hash, halfA, halfB, rowG, rowE, halfZero, half}
-use Rattle.model.specs.Garbling.{schemeOf, siteOf, zeroAt, zeroStep, zeroTokens}
+use Rattle.model.specs.Garbling.{schemeOf, siteOf, zeroAt, zeroStep, zeroTokens, inputOnes}
 use Rattle.model.specs.Material.{recordOf, records, lastRecord, material}
 use Rattle.model.specs.Evaluation.{openAt, openStep, past, openGates, evaluate}
 use Rattle.model.specs.Refusals.{fine, isRefused, _then_, headVerdict, gateVerdict, recordVerdict, circuitVerdict, circuitSizes, rowStart, rowVerdict, materialVerdict}
-use Rattle.model.specs.Kept.{LeftRefused, ZeroPassedOn, TokenPassedOn, PassedOn, kinds01, kind01, kindValue, chargesBy, gateValueBy, gateVerdictBy, recordVerdictBy, circuitVerdictBy, rowVerdictBy, materialVerdictBy, halfABy, halfBBy, rowGBy, rowEBy, halfBy, schemeBy, zeroAtBy, zeroStepBy, zeroTokensBy, recordOfBy, recordsBy, lastRecordBy, materialBy, openStepBy, openGatesBy, evaluateBy, SameBytes}
+use Rattle.model.specs.Kept.{LeftRefused, ZeroPassedOn, TokenPassedOn, PassedOn, kinds01, kind01, kindValue, chargesBy, gateValueBy, gateVerdictBy, recordVerdictBy, circuitVerdictBy, rowVerdictBy, materialVerdictBy, offsetBy, inputZerosBy, inputOnesBy, siteBy, halfABy, halfBBy, rowGBy, rowEBy, halfBy, schemeBy, zeroAtBy, zeroStepBy, zeroTokensBy, recordOfBy, recordsBy, lastRecordBy, materialBy, openStepBy, openGatesBy, evaluateBy, SameBytes, seedBlock01, RunZero, RunsApart}
 use Rattle.model.proofs.Bits.{Bit, b0, b1, bit-of, bit-small}
 use Rattle.model.proofs.Codes.{value-bit, past-table, in-table}
-use Rattle.model.proofs.Lists.{agree, tabulate-length}
-use Rattle.model.proofs.Blocks.{Blocks, blocks-wide, cut-blocks}
+use Rattle.model.proofs.Number.{Bytes, all-bytes, leading-zeros, length-bytes, number-bytes, of-number, both}
+use Rattle.model.proofs.Permutation.{aes-apart}
+use Rattle.model.proofs.Lists.{agree, from-cong, tabulate-length}
+use Rattle.model.proofs.Blocks.{Blocks, blocks-length, blocks-wide, cut-blocks}
 use Rattle.model.proofs.Schemes.{scheme-sound}
 use Rattle.model.proofs.Lengths.{input-zeros-blocks, zeros-blocks, opened-blocks}
-use Rattle.model.proofs.Accepted.{GateHolds, accepted-gate}
+use Rattle.model.proofs.Accepted.{GateHolds, accepted-header, accepted-gate}
 use Rattle.model.proofs.Xor.{⊕-assoc, ⊕-zero}
 use Rattle.model.proofs.XorRules.{zero-⊕, ⊕-zero-right, times-0, times-1}
 use Rattle.model.proofs.Verdicts.{then-fine, refuse-fine, first-each, first-all, first-same}
@@ -202,81 +205,124 @@ values-same (g ∷ gs) vs h b =
 -- ---- zero tokens and records
 
 -- what is the same in scheme 3 is the same in all
-by-scheme : {A : Type 0} (f : Scheme → A) → f (halfBy kind01) ≡ f (half hash) → (k : ℕ) → f (schemeBy kind01 k) ≡ f (schemeOf k)
+by-scheme : (K : ℕ → Kind) {A : Type 0} (f : Scheme → A) → f (halfBy K) ≡ f (half hash) → (k : ℕ) → f (schemeBy K k) ≡ f (schemeOf k)
 unfolding schemeBy schemeOf
-by-scheme f e k = go (eqb k 1) (eqb k 2)
+by-scheme K f e k = go (eqb k 1) (eqb k 2)
   where
-    go : (x y : Bool) → f (cond x (gax dualKey) (cond y (gaxr dualKey) (halfBy kind01))) ≡ f (cond x (gax dualKey) (cond y (gaxr dualKey) (half hash)))
+    go : (x y : Bool) → f (cond x (gax dualKey) (cond y (gaxr dualKey) (halfBy K))) ≡ f (cond x (gax dualKey) (cond y (gaxr dualKey) (half hash)))
     go true y = refl
     go false true = refl
     go false false = e
 
-module _ (s : Site) (same : kind01 (s .code) ≡ kindOf (s .code)) where
-  A-same : halfABy kind01 s ≡ halfA s
+-- where a table has a site's code as today's has it
+module _ (K : ℕ → Kind) (s : Site) (same : K (s .code) ≡ kindOf (s .code)) where
+  A-same : halfABy K s ≡ halfA s
   unfolding halfABy halfA
   A-same = rw same
 
-  B-same : halfBBy kind01 s ≡ halfB s
+  B-same : halfBBy K s ≡ halfB s
   unfolding halfBBy halfB
   B-same = rw same
 
-  G-same : rowGBy kind01 s ≡ rowG hash s
+  G-same : rowGBy K s ≡ rowG hash s
   unfolding rowGBy rowG
   G-same = rw (A-same, B-same)
 
-  E-same : rowEBy kind01 s ≡ rowE hash s
+  E-same : rowEBy K s ≡ rowE hash s
   unfolding rowEBy rowE
   E-same = rw (A-same, B-same)
 
-  half-zero-same : halfBy kind01 .zeroToken s ≡ half hash .zeroToken s
+  half-zero-same : halfBy K .zeroToken s ≡ half hash .zeroToken s
   unfolding halfBy half halfZero
   half-zero-same = rw (A-same, B-same, G-same, E-same, same)
 
-  half-rows-same : halfBy kind01 .rows s ≡ half hash .rows s
+  half-rows-same : halfBy K .rows s ≡ half hash .rows s
   unfolding halfBy half
   half-rows-same = rw (G-same, E-same)
 
-  zero-at-same : (γ : Garbling) (k : Kind) → zeroAtBy kind01 γ k s ≡ zeroAt γ k s
+  zero-at-same : (γ : Garbling) (k : Kind) → zeroAtBy K γ k s ≡ zeroAt γ k s
   unfolding zeroAtBy zeroAt
-  zero-at-same γ (charged u v x) = by-scheme (λ S. S .zeroToken s) half-zero-same (γ .scheme)
+  zero-at-same γ (charged u v x) = by-scheme K (λ S. S .zeroToken s) half-zero-same (γ .scheme)
   zero-at-same γ (free p q c) = refl
   zero-at-same γ refused = refl
 
-  record-of-same : (γ : Garbling) (k : Kind) → recordOfBy kind01 γ k s ≡ recordOf γ k s
+  record-of-same : (γ : Garbling) (k : Kind) → recordOfBy K γ k s ≡ recordOf γ k s
   unfolding recordOfBy recordOf
-  record-of-same γ (charged u v x) = rw (by-scheme (λ S. S .rows s) half-rows-same (γ .scheme))
+  record-of-same γ (charged u v x) = rw (by-scheme K (λ S. S .rows s) half-rows-same (γ .scheme))
   record-of-same γ (free p q c) = refl
   record-of-same γ refused = refl
 
-module _ (γ : Garbling) where
-  module _ (xs : List Block) (g : Gate) (known : isRefused (kind01 (g .code)) ≡ false) where
-    zero-step-same : zeroStepBy kind01 γ xs g ≡ zeroStep γ xs g
-    unfolding zeroStepBy zeroStep siteOf
-    zero-step-same = zero-at-same (siteOf γ xs g) (same-kind (g .code) known) γ _ ∙ rw (same-kind (g .code) known)
+-- and for every gate's code
+abbrev SameKinds : (ℕ → Kind) → List Gate → Type 0
+SameKinds K [] = Unit
+SameKinds K (g ∷ gs) = (K (g .code) ≡ kindOf (g .code)) × SameKinds K gs
 
-    record-same : recordOfBy kind01 γ (kind01 (g .code)) (siteOf γ xs g) ≡ recordOf γ (kindOf (g .code)) (siteOf γ xs g)
-    unfolding siteOf
-    record-same = record-of-same (siteOf γ xs g) (same-kind (g .code) known) γ _ ∙ rw (same-kind (g .code) known)
+known-kinds : (gs : List Gate) → Known gs → SameKinds kind01 gs
+known-kinds [] h = tt
+known-kinds (g ∷ gs) h = (same-kind (g .code) (h .0), known-kinds gs (h .1))
 
-  zeros-same : (gs : List Gate) (xs : List Block) → Known gs → wires (zeroStep γ) gs xs ≡ wires (zeroStepBy kind01 γ) gs xs
+own-kinds : (gs : List Gate) → SameKinds kindOf gs
+own-kinds [] = tt
+own-kinds (g ∷ gs) = (refl, own-kinds gs)
+
+-- how many wires there are
+abbrev wiresOf : Garbling → ℕ
+wiresOf γ = γ .circuit .n + length (γ .circuit .gates)
+
+-- where, besides, a rule has the seed's blocks of all wires up to one
+module _ (K : ℕ → Kind) (B : ℕ → Block) (γ : Garbling) (top : ℕ) (same : (i : ℕ) → i ≤ top → B i ≡ seedBlock γ i) where
+  offset-same : offsetBy B ≡ offset γ
+  unfolding offsetBy offset
+  offset-same = ap coloured (same 0 (omega arith))
+
+  module _ (xs : List Block) (g : Gate) (within : length xs < top) (same-kind : K (g .code) ≡ kindOf (g .code)) where
+    site-same : siteBy B xs g ≡ siteOf γ xs g
+    unfolding siteBy siteOf
+    site-same = rw (offset-same, same (suc (length xs)) (omega arith))
+
+    zero-step-same : zeroStepBy K B γ xs g ≡ zeroStep γ xs g
+    unfolding zeroStepBy zeroStep
+    zero-step-same = rw (site-same, same-kind) (zero-at-same K (siteOf γ xs g) (unfold siteOf in same-kind) γ _)
+
+    record-same : recordOfBy K γ (K (g .code)) (siteBy B xs g) ≡ recordOf γ (kindOf (g .code)) (siteOf γ xs g)
+    record-same = rw (site-same, same-kind) (record-of-same K (siteOf γ xs g) (unfold siteOf in same-kind) γ _)
+
+  -- one wire more
+  grown : (xs : List Block) (x : Block) (k : ℕ) → length xs + suc k ≤ top → length (xs ++ (x ∷ [])) + k ≤ top
+  grown xs x k l = omega (arith, length-append xs (x ∷ []))
+
+  zeros-same : (gs : List Gate) (xs : List Block) → length xs + length gs ≤ top → SameKinds K gs → wires (zeroStep γ) gs xs ≡ wires (zeroStepBy K B γ) gs xs
   unfolding wires
-  zeros-same [] xs h = refl
-  zeros-same (g ∷ gs) xs h = rw (zero-step-same xs g (h .0)) (zeros-same gs (xs ++ (zeroStep γ xs g ∷ [])) (h .1))
+  zeros-same [] xs l h = refl
+  zeros-same (g ∷ gs) xs l h =
+      rw (zero-step-same xs g (omega arith) (h .0)) (zeros-same gs (xs ++ (zeroStep γ xs g ∷ [])) (grown xs _ (length gs) l) (h .1))
 
-  records-same : (gs : List Gate) (xs : List Block) → Known gs → records γ gs xs ≡ recordsBy kind01 γ gs xs
+  records-same : (gs : List Gate) (xs : List Block) → length xs + length gs ≤ top → SameKinds K gs → records γ gs xs ≡ recordsBy K B γ gs xs
   unfolding records recordsBy
-  records-same [] xs h = refl
-  records-same (g ∷ gs) xs h =
-      rw (record-same xs g (h .0), zero-step-same xs g (h .0), records-same gs (xs ++ (zeroStep γ xs g ∷ [])) (h .1))
+  records-same [] xs l h = refl
+  records-same (g ∷ gs) xs l h =
+      rw (record-same xs g (omega arith) (h .0), zero-step-same xs g (omega arith) (h .0), records-same gs (xs ++ (zeroStep γ xs g ∷ [])) (grown xs _ (length gs) l) (h .1))
 
-  module _ (h : Known (γ .circuit .gates)) where
-    zero-tokens-same : zeroTokens γ ≡ zeroTokensBy kind01 γ
-    unfolding zeroTokens zeroTokensBy
-    zero-tokens-same = zeros-same (γ .circuit .gates) (inputZeros γ) h
+  module _ (all : wiresOf γ ≤ top) where
+    inputs-same : inputZerosBy B γ ≡ inputZeros γ
+    unfolding inputZerosBy inputZeros
+    inputs-same = from-cong 0 (γ .circuit .n) (λ i. B (i + 1)) (λ i. seedBlock γ (i + 1)) (λ i l. same (i + 1) (omega arith))
 
-    material-same : material γ ≡ materialBy kind01 γ
-    unfolding material materialBy lastRecord lastRecordBy
-    material-same = rw (records-same (γ .circuit .gates) (inputZeros γ) h, zero-tokens-same)
+    ones-same : inputOnes γ ≡ inputOnesBy B γ
+    unfolding inputOnes inputOnesBy oneToken
+    ones-same = rw (inputs-same, offset-same)
+
+    within-top : length (inputZeros γ) + length (γ .circuit .gates) ≤ top
+    within-top = omega (arith, blocks-length (input-zeros-blocks γ))
+
+    module _ (h : SameKinds K (γ .circuit .gates)) where
+      zero-tokens-same : zeroTokens γ ≡ zeroTokensBy K B γ
+      unfolding zeroTokens zeroTokensBy
+      zero-tokens-same = rw inputs-same (zeros-same (γ .circuit .gates) (inputZeros γ) within-top h)
+
+      material-same : material γ ≡ materialBy K B γ
+      unfolding material materialBy lastRecord lastRecordBy
+      material-same = rw (inputs-same, records-same (γ .circuit .gates) (inputZeros γ) within-top h, zero-tokens-same)
 
 -- ---- tokens evaluated
 
@@ -326,15 +372,86 @@ module _ (c : List ℕ) (e : circuitVerdictBy kind01 c ≡ fine) where
   unfolding circuitOf
   all-known = known-from 0 (gates c) (omega arith)
 
+  -- those of a garbling of it
+  kinds-01 : (γ : Garbling) → γ .circuit ≡ circuitOf c → SameKinds kind01 (γ .circuit .gates)
+  kinds-01 γ is-c = rw is-c (known-kinds (circuitOf c .gates) all-known)
+
   pub same-bytes : SameBytes c
   unfolding circuitVerdictBy circuitVerdict plainValues evaluate evaluateBy _then_
   same-bytes = record {
     accepted = rw (then-fine (headVerdict c) _ e .0) (first-all (recordVerdict c (inputs c)) (gates c) gate-accepted);
     as-many = charges-same (circuitOf c .gates) all-known;
     values = λ vs b. values-same (circuitOf c .gates) vs all-known b;
-    zeros = λ γ is-c. zero-tokens-same γ (rw is-c all-known);
-    rows = λ γ is-c. material-same γ (rw is-c all-known);
+    zeros = λ γ is-c. zero-tokens-same kind01 (seedBlock γ) γ (wiresOf γ) (λ i l. refl) (omega arith) (kinds-01 γ is-c);
+    rows = λ γ is-c. material-same kind01 (seedBlock γ) γ (wiresOf γ) (λ i l. refl) (omega arith) (kinds-01 γ is-c);
     refusals = λ s. refusals-same (circuitOf c) all-known s;
     tokens = λ ts s. opened-same _ (circuitOf c .gates) (drop 9 s) ts all-known
-        ∙ sym (by-scheme (λ S. openGatesBy kind01 S (circuitOf c .gates) (drop 9 s) ts) (opened-half (circuitOf c .gates) (drop 9 s) ts) (getD s 2 0));
+        ∙ sym (by-scheme kind01 (λ S. openGatesBy kind01 S (circuitOf c .gates) (drop 9 s) ts) (opened-half (circuitOf c .gates) (drop 9 s) ts) (getD s 2 0));
   }
+
+-- ==== Job 4
+
+-- ---- run 0
+
+-- a wire number of 16 bits has 14 zeros before it, whether the block is cut in two or not
+whole-block : (i : ℕ) → i ≤ 65535 → runBlock 0 i ≡ block i
+unfolding runBlock block bytesOf
+whole-block i h = sym (leading-zeros 8 8 i (omega arith))
+
+rule-01 : (γ : Garbling) → γ .run ≡ 0 → (i : ℕ) → i ≤ 65535 → seedBlock01 γ i ≡ seedBlock γ i
+unfolding seedBlock01 seedBlock
+rule-01 γ e i h = rw (e, whole-block i h)
+
+module _ (c : List ℕ) (e : circuitVerdict c ≡ fine) (γ : Garbling) (is-c : γ .circuit ≡ circuitOf c) (run-0 : γ .run ≡ 0) where
+  -- an accepted circuit has at most 65,535 wires
+  few-wires : wiresOf γ ≤ 65535
+  unfolding circuitOf
+  few-wires = rw is-c (omega (arith, tabulate-length (gates c) (gateAt c), accepted-header c e .sizes .sum))
+
+  by-rule : (K : ℕ → Kind) → SameKinds K (γ .circuit .gates) → RunZero K γ
+  by-rule K h =
+      let B = seedBlock01 γ in
+      let r = rule-01 γ run-0 in
+      record {
+        zeros = zero-tokens-same K B γ 65535 r few-wires h;
+        ones = ones-same K B γ 65535 r few-wires;
+        rows = material-same K B γ 65535 r few-wires h;
+      }
+
+  pub run-zero : RunZero kindOf γ
+  run-zero = by-rule kindOf (own-kinds (γ .circuit .gates))
+
+pub run-zero-01 : (c : List ℕ) → circuitVerdictBy kind01 c ≡ fine → (γ : Garbling) → γ .circuit ≡ circuitOf c → γ .run ≡ 0 → RunZero kind01 γ
+run-zero-01 c e γ is-c run-0 = by-rule c (same-bytes c e .accepted) γ is-c run-0 kind01 (kinds-01 c e γ is-c)
+
+-- ---- runs apart
+
+-- a number of 64 bits is told by its 8 bytes
+told : (x y : ℕ) → x < 2 ^ 64 → y < 2 ^ 64 → bytesOf 8 x ≡ bytesOf 8 y → x ≡ y
+told x y h k e = omega (arith, sym (number-bytes 8 x) ∙ ap number e ∙ number-bytes 8 y)
+
+block-told : (run run′ i i′ : ℕ) → (run < 2 ^ 64) × (run′ < 2 ^ 64) → (i < 2 ^ 64) × (i′ < 2 ^ 64) → runBlock run i ≡ runBlock run′ i′ → (run ≡ run′) × (i ≡ i′)
+unfolding runBlock
+block-told run run′ i i′ h k e =
+    let l : length (bytesOf 8 run) ≡ 8 = length-bytes 8 run in
+    let l′ : length (bytesOf 8 run′) ≡ 8 = length-bytes 8 run′ in
+    let first : bytesOf 8 run ≡ bytesOf 8 run′ = sym (take-at _ (bytesOf 8 i) 8 l) ∙ ap (take 8) e ∙ take-at _ (bytesOf 8 i′) 8 l′ in
+    let last : bytesOf 8 i ≡ bytesOf 8 i′ = sym (drop-at (bytesOf 8 run) _ 8 l) ∙ ap (drop 8) e ∙ drop-at (bytesOf 8 run′) _ 8 l′ in
+    (told run run′ (h .0) (h .1) first, told i i′ (k .0) (k .1) last)
+
+block-bytes : (run i : ℕ) → Bytes (runBlock run i)
+unfolding runBlock
+block-bytes run i = both (of-number 8 run) (of-number 8 i)
+
+block-long : (run i : ℕ) → length (runBlock run i) ≡ 16
+unfolding runBlock
+block-long run i = length-append (bytesOf 8 run) (bytesOf 8 i) ∙ omega (arith, length-bytes 8 run, length-bytes 8 i)
+
+pub runs-apart : RunsApart
+unfolding seedBlock
+runs-apart γ γ′ i i′ one e =
+    let b = runBlock (γ .run) i in
+    let b′ = runBlock (γ′ .run) i′ in
+    let same-key : aes (γ .seed) b ≡ aes (γ .seed) b′ = e ∙ ap (λ k. aes k b′) (sym (one .same-seed)) in
+    block-told (γ .run) (γ′ .run) i i′ (one .run-numbers) (one .wire-numbers)
+    (aes-apart (all-bytes (γ .seed) (one .bytes)) (block-bytes (γ .run) i) (block-bytes (γ′ .run) i′) (block-long (γ .run) i) (block-long (γ′ .run) i′) same-key)

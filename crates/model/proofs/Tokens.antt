@@ -7,7 +7,7 @@ use lib.ListN.{length, getD, length-set}
 use lib.Seq.{getD-set-same}
 use Rattle.model.specs.Bytes.{bytesOf}
 use Rattle.model.specs.Aes.{Block, _⊕_, block, times, addRoundKey, cipher, aes}
-use Rattle.model.specs.Tokens.{Garbling, colour, coloured, distance, seedBlock, offset}
+use Rattle.model.specs.Tokens.{Garbling, colour, coloured, distance, runBlock, seedBlock, offset}
 use Rattle.model.proofs.Bits.{Bit, b0, b1, bit-mod, bit-differ, differ-twice}
 use Rattle.model.proofs.Xor.{⊕-length, ⊕-zero, xor-odd}
 use Rattle.model.proofs.XorRules.{xors, xors-times, zero-⊕, times-0, times-1}
@@ -30,7 +30,7 @@ aes-length key s = ⊕-length _ _
 
 pub seedBlock-length : (γ : Garbling) (i : ℕ) → length (seedBlock γ i) ≡ 16
 unfolding seedBlock
-seedBlock-length γ i = aes-length (γ .seed) (block i)
+seedBlock-length γ i = aes-length (γ .seed) (runBlock (γ .run) i)
 
 -- ---- colours
 

@@ -14,7 +14,8 @@ use Rattle.model.specs.Evaluation.{encodeBytes, evaluateBytes, decodeByt
 use Rattle.model.specs.Refusals.{fine, _then_, circuitVerdict, roomVerdict}
 use Rattle.model.specs.Operations.{garbleVerdict, encodeVerdict, evaluateVerdict, decodeVerdict}
 
--- "every accepted circuit, each scheme, every 16-byte seed and every list of input bits, one for each input"
+-- "every accepted circuit, each scheme, every 16-byte seed and every list of input bits, one for each input"; and every run number (02, job 4), of
+-- which nothing is asked
 pub record Allowed (c seed : List ℕ) (want : Wanted) (values : List ℕ) : Type 0 where
   pub accepted : circuitVerdict c ≡ fine
   pub known : Known (want .scheme)
@@ -27,7 +28,7 @@ unfoldable pub carries : List ℕ → List ℕ → ℕ → ℕ
 carries c values w = wire 0 (plainValues (circuitOf c) values) w
 
 module _ (c seed : List ℕ) (want : Wanted) (values : List ℕ) where
-  -- "The circuit is garbled by that scheme from that seed"
+  -- "The circuit is garbled by that scheme from that seed", for that run
   abbrev pub chained : Garbling
   chained = garblingOf c seed want
 
@@ -58,7 +59,7 @@ module _ (c seed : List ℕ) (want : Wanted) (values : List ℕ) where
 
   -- "is the all-zero block exactly when the plain circuit carries 0 there, and the seed's offset R exactly when it carries 1.
   -- Decoding the tokens that evaluation left on the outputs, with the same material, gives exactly the bits that the plain
-  -- circuit carries there, in the order of the outputs."
+  -- circuit carries there, in the order of the outputs." "the tokens' distance is R of that run" (02, job 4)
   pub record Demand3 : Type 0 where
     pub at-zero : (w : ℕ) → 1 ≤ w → w ≤ inputs c + gates c → (distanceAt w ≡ block 0) ↔ (carries c values w ≡ 0)
     pub at-one : (w : ℕ) → 1 ≤ w → w ≤ inputs c + gates c → (distanceAt w ≡ offset chained) ↔ (carries c values w ≡ 1)

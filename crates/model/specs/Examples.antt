@@ -1,5 +1,5 @@
--- Document 01, "Table of examples": those marked P, and the limits; and of document 02, job 2, a gate of one operand. The theorem is `examples` of
--- proofs/Examples.antt.
+-- Document 01, "Table of examples": those marked P, and the limits; and of document 02, job 2, a gate of one operand, and job 4, the block that is
+-- enciphered under the seed. The theorem is `examples` of proofs/Examples.antt.
 use Prim.Native.Nat.{ℕ}
 use mathlib.Core.Path.{_≡_}
 use mathlib.Core.Bool.{true, false}
@@ -7,6 +7,7 @@ use mathlib.Core.List.{List, [], _∷_, _++_}
 use lib.ListN.{take, replicate}
 use Rattle.model.specs.Circuit.{kindOf, sizesHold, circuitOf, plainValues}
 use Rattle.model.specs.Aes.{Block, block, double, quadruple, sBox}
+use Rattle.model.specs.Tokens.{runBlock}
 use Rattle.model.specs.HalfGates.{alpha, beta, gamma}
 use Rattle.model.specs.Refusals.{refused}
 use Rattle.model.specs.Operations.{yes, no, checkAnswer}
@@ -58,3 +59,8 @@ pub record Examples : Type 0 where
   pub unused-operand : checkAnswer (oneGate 0x01 0x03 0x0C) ≡ no (refused 6 3)
   pub fifteen : checkAnswer (oneGate 0x01 0x02 0x0F) ≡ no (refused 7 3)
   pub sixteen : checkAnswer (oneGate 0x01 0x02 0x10) ≡ no (refused 7 3)
+  -- 02, job 4: run 0 and wire 7, run 1 and R, and a run and a wire of many bytes
+  pub first-run : runBlock 0 7 ≡ block 7
+  pub second-run : runBlock 1 0 ≡ replicate 7 0x00 ++ (0x01 ∷ replicate 8 0x00)
+  pub long-run : runBlock 0x0102030405060708 0x1234
+      ≡ 0x01 ∷ 0x02 ∷ 0x03 ∷ 0x04 ∷ 0x05 ∷ 0x06 ∷ 0x07 ∷ 0x08 ∷ replicate 6 0x00 ++ (0x12 ∷ 0x34 ∷ [])

@@ -1,5 +1,5 @@
 -- What document 02 says of what was there before, a part for each job that says so. The theorems are in proofs/Kept.antt.
-use Prim.Native.Nat.{ℕ, _+_, _*_, _-_, _≤_, _<_}
+use Prim.Native.Nat.{ℕ, _+_, _*_, _-_, _^_, _≤_, _<_}
 use mathlib.Core.Path.{_≡_}
 use mathlib.Core.Bool.{not, cond, _&&_, _||_}
 use mathlib.Core.List.{List, [], _∷_, _++_, map}
@@ -9,13 +9,13 @@ use lib.ListN.{length, getD, take, drop}
 use Rattle.model.specs.declared.Gate.{Gate}
 use Rattle.model.specs.Bytes.{tabulate, two}
 use Rattle.model.specs.Circuit.{Circuit, Kind, charged, free, refused, circuitOf, kindOf, charge, charges, codeAt, markAt, inputs, gates, recordAt, gateAt, operandsHold, gateWire, wire, wires, plainValues}
-use Rattle.model.specs.Aes.{Block, _⊕_, block, times}
-use Rattle.model.specs.Tokens.{Garbling, colour, offset, inputZeros, freeZero}
+use Rattle.model.specs.Aes.{Block, _⊕_, block, times, aes}
+use Rattle.model.specs.Tokens.{Garbling, colour, coloured, seedBlock, offset, inputZeros, freeZero}
 use Rattle.model.specs.Scheme.{Site, Scheme}
 use Rattle.model.specs.Gax.{dualKey, gax}
 use Rattle.model.specs.Gaxr.{gaxr}
 use Rattle.model.specs.HalfGates.{hash, alpha, beta, gamma, generatorTweak, evaluatorTweak, joined}
-use Rattle.model.specs.Garbling.{own, schemeOf, siteOf, zeroStep, zeroTokens}
+use Rattle.model.specs.Garbling.{own, schemeOf, zeroStep, zeroTokens, inputOnes}
 use Rattle.model.specs.Material.{joinBlocks, lastStart, header, material}
 use Rattle.model.specs.Evaluation.{cut, openAt, openStep, past, openGates, evaluate}
 use Rattle.model.specs.Refusals.{Verdict, fine, refuse, _then_, firstOf, isRefused, isCharged, headVerdict, circuitVerdict, fileVerdict, rowRecordAt, lastVerdict, materialVerdict}
@@ -69,7 +69,31 @@ kindValue (charged u v x) a b = cond (eqb a u && eqb b v) x (1 - x)
 kindValue (free p q c) a b = differ (differ (p * a) (q * b)) c
 kindValue refused a b = 0
 
--- What a table K gives: the definitions that ask for a code's kind, each as it stands in the file named, with K in the place of kindOf.
+-- What a rule B for the blocks under the seed gives: the definitions that ask for such a block, each as it stands in the file named, with
+-- B i in the place of seedBlock γ i.
+module _ (B : ℕ → Block) where
+  -- Tokens
+  unfoldable pub offsetBy : Block
+  offsetBy = coloured (B 0)
+
+  unfoldable pub inputZerosBy : Garbling → List Block
+  inputZerosBy γ = tabulate (γ .circuit .n) (λ i. B (i + 1))
+
+  unfoldable pub inputOnesBy : Garbling → List Block
+  inputOnesBy γ = map (λ x. x ⊕ offsetBy) (inputZerosBy γ)
+
+  -- Garbling
+  unfoldable pub siteBy : List Block → Gate → Site
+  siteBy xs g = record {
+    R = offsetBy;
+    fresh = B (own xs);
+    g = own xs;
+    code = g .code;
+    Xa = wire (block 0) xs (g .a .0);
+    Xb = wire (block 0) xs (g .b .0);
+  }
+
+-- What a table K gives, with such a rule: the definitions that ask for a code's kind, with K in the place of kindOf.
 module _ (K : ℕ → Kind) where
   -- Circuit: p, and the values
   unfoldable pub chargesBy : List Gate → ℕ
@@ -129,33 +153,34 @@ module _ (K : ℕ → Kind) where
   unfoldable pub schemeBy : ℕ → Scheme
   schemeBy k = cond (eqb k 1) (gax dualKey) (cond (eqb k 2) (gaxr dualKey) halfBy)
 
-  module _ (γ : Garbling) where
-    unfoldable pub zeroAtBy : Kind → Site → Block
-    zeroAtBy (charged u v x) s = schemeBy (γ .scheme) .zeroToken s
-    zeroAtBy (free p q c) s = freeZero p q c (s .R) (s .Xa) (s .Xb)
-    zeroAtBy refused s = block 0
+  unfoldable pub zeroAtBy : Garbling → Kind → Site → Block
+  zeroAtBy γ (charged u v x) s = schemeBy (γ .scheme) .zeroToken s
+  zeroAtBy γ (free p q c) s = freeZero p q c (s .R) (s .Xa) (s .Xb)
+  zeroAtBy γ refused s = block 0
 
+  -- Material
+  unfoldable pub recordOfBy : Garbling → Kind → Site → List ℕ
+  recordOfBy γ (charged u v x) s = 0x47 ∷ 0x54 ∷ two (s .g) ++ joinBlocks (schemeBy (γ .scheme) .rows s)
+  recordOfBy γ (free p q c) s = []
+  recordOfBy γ refused s = []
+
+  -- both, over all gates
+  module _ (B : ℕ → Block) (γ : Garbling) where
     unfoldable pub zeroStepBy : List Block → Gate → Block
-    zeroStepBy xs g = zeroAtBy (K (g .code)) (siteOf γ xs g)
+    zeroStepBy xs g = zeroAtBy γ (K (g .code)) (siteBy B xs g)
 
     unfoldable pub zeroTokensBy : List Block
-    zeroTokensBy = wires zeroStepBy (γ .circuit .gates) (inputZeros γ)
-
-    -- Material
-    unfoldable pub recordOfBy : Kind → Site → List ℕ
-    recordOfBy (charged u v x) s = 0x47 ∷ 0x54 ∷ two (s .g) ++ joinBlocks (schemeBy (γ .scheme) .rows s)
-    recordOfBy (free p q c) s = []
-    recordOfBy refused s = []
+    zeroTokensBy = wires zeroStepBy (γ .circuit .gates) (inputZerosBy B γ)
 
     unfoldable pub recordsBy : List Gate → List Block → List ℕ
     recordsBy [] xs = []
-    recordsBy (g ∷ gs) xs = recordOfBy (K (g .code)) (siteOf γ xs g) ++ recordsBy gs (xs ++ (zeroStepBy xs g ∷ []))
+    recordsBy (g ∷ gs) xs = recordOfBy γ (K (g .code)) (siteBy B xs g) ++ recordsBy gs (xs ++ (zeroStepBy xs g ∷ []))
 
     unfoldable pub lastRecordBy : List ℕ
     lastRecordBy = 0x47 ∷ 0x44 ∷ map (λ w. colour (wire (block 0) zeroTokensBy w)) (γ .circuit .outputs)
 
     unfoldable pub materialBy : List ℕ
-    materialBy = header γ ++ recordsBy (γ .circuit .gates) (inputZeros γ) ++ lastRecordBy
+    materialBy = header γ ++ recordsBy (γ .circuit .gates) (inputZerosBy B γ) ++ lastRecordBy
 
   -- Evaluation
   module _ (S : Scheme) where
@@ -176,7 +201,34 @@ pub record SameBytes (c : List ℕ) : Type 0 where
   pub accepted : circuitVerdict c ≡ fine
   pub as-many : charges (circuitOf c .gates) ≡ chargesBy kind01 (circuitOf c .gates)
   pub values : (vs : List ℕ) → ((i : ℕ) → getD vs i 0 ≤ 1) → plainValues (circuitOf c) vs ≡ wires (gateValueBy kind01) (circuitOf c .gates) vs
-  pub zeros : (γ : Garbling) → γ .circuit ≡ circuitOf c → zeroTokens γ ≡ zeroTokensBy kind01 γ
-  pub rows : (γ : Garbling) → γ .circuit ≡ circuitOf c → material γ ≡ materialBy kind01 γ
+  pub zeros : (γ : Garbling) → γ .circuit ≡ circuitOf c → zeroTokens γ ≡ zeroTokensBy kind01 (seedBlock γ) γ
+  pub rows : (γ : Garbling) → γ .circuit ≡ circuitOf c → material γ ≡ materialBy kind01 (seedBlock γ) γ
   pub refusals : (s : List ℕ) → materialVerdict (circuitOf c) s ≡ materialVerdictBy kind01 (circuitOf c) s
   pub tokens : (ts : List Block) (s : List ℕ) → evaluate (circuitOf c) ts s ≡ evaluateBy kind01 (circuitOf c) ts s
+
+-- ==== Job 4, two comparisons under one seed
+
+-- ---- "Run 0 gives today's bytes."
+
+-- 01's own rule, "Tokens": "AES under the seed of block i"
+unfoldable pub seedBlock01 : Garbling → ℕ → Block
+seedBlock01 γ i = aes (γ .seed) (block i)
+
+-- A garbling γ of run 0 gets, of an accepted circuit, what that rule gives, where K is the table of today, kindOf; and of a circuit that 01
+-- accepts, what 01 gives, where K is kind01: the zero tokens, the inputs' one tokens and the material.
+pub record RunZero (K : ℕ → Kind) (γ : Garbling) : Type 0 where
+  pub zeros : zeroTokens γ ≡ zeroTokensBy K (seedBlock01 γ) γ
+  pub ones : inputOnes γ ≡ inputOnesBy (seedBlock01 γ) γ
+  pub rows : material γ ≡ materialBy K (seedBlock01 γ) γ
+
+-- ---- two pairs of a run and a wire give the same block under a seed only if they are the same pair
+
+-- garblings from one seed, which is of bytes, and a wire of each; runs and wires are numbers of 64 bits
+pub record OneSeed (γ γ′ : Garbling) (i i′ : ℕ) : Type 0 where
+  pub same-seed : γ .seed ≡ γ′ .seed
+  pub bytes : (k : ℕ) → getD (γ .seed) k 0 < 256
+  pub run-numbers : (γ .run < 2 ^ 64) × (γ′ .run < 2 ^ 64)
+  pub wire-numbers : (i < 2 ^ 64) × (i′ < 2 ^ 64)
+
+abbrev pub RunsApart : Type 0
+RunsApart = (γ γ′ : Garbling) (i i′ : ℕ) → OneSeed γ γ′ i i′ → seedBlock γ i ≡ seedBlock γ′ i′ → (γ .run ≡ γ′ .run) × (i ≡ i′)

@@ -66,7 +66,8 @@ pub record PlainIs (c v o : List ℕ) (r : Verdict) (x : List ℕ) : Type 0 wher
   pub answered : r ≡ plainVerdict c v (length o)
   pub left : x ≡ written (plainVerdict c v (length o)) (plainValues (circuitOf c) v) o
 
--- ---- "Garble (circuit, seed, scheme as a byte): material; zero tokens of all wires, 16(n+q) bytes; one tokens of the inputs, 16n bytes"
+-- ---- "Garble (circuit, seed, scheme as a byte): material; zero tokens of all wires, 16(n+q) bytes; one tokens of the inputs, 16n bytes"; "Garbling
+-- takes a run number of 64 bits" (02, job 4), of which no verdict speaks
 
 -- 1 to 7, 8, 14, and 19 for the three buffers in turn, of the lengths km, kz and ko
 unfoldable pub garbleVerdict : List ℕ → List ℕ → Wanted → ℕ → ℕ → ℕ → Verdict

@@ -6,7 +6,7 @@ use Rattle.model.specs.Aes.{Block}
 -- What garbling knows at a charged gate.
 pub record Site : Type 0 where
   pub R : Block  -- the seed's offset
-  pub fresh : Block  -- AES under the seed of block g
+  pub fresh : Block  -- the seed's block of wire g
   pub g : ℕ  -- the gate's wire number
   pub code : ℕ  -- its code
   pub Xa : Block  -- the zero tokens of its operands

@@ -1,22 +1,23 @@
--- Document 01, "Tokens".
+-- Document 01, "Tokens", with the run number of document 02, job 4.
 use Prim.Native.Nat.{ℕ, _+_, _*_, _/_, _%_}
-use mathlib.Core.List.{List}
+use mathlib.Core.List.{List, _++_}
 use lib.Bits.{differ}
 use lib.ListN.{getD, set}
 use Rattle.model.specs.declared.Wanted.{Wanted}
-use Rattle.model.specs.Bytes.{tabulate}
+use Rattle.model.specs.Bytes.{tabulate, bytesOf}
 use Rattle.model.specs.Circuit.{Circuit, circuitOf}
-use Rattle.model.specs.Aes.{Block, _⊕_, times, block, aes}
+use Rattle.model.specs.Aes.{Block, _⊕_, times, aes}
 
--- What a garbling is made from: the circuit, the seed, and the scheme by its byte.
+-- What a garbling is made from: the circuit, the seed, the run number, and the scheme by its byte.
 pub record Garbling : Type 0 where
   pub circuit : Circuit
   pub seed : Block
+  pub run : ℕ
   pub scheme : ℕ
 
 -- the garbling of a circuit's bytes, as it is wanted
 abbrev pub garblingOf : List ℕ → List ℕ → Wanted → Garbling
-garblingOf c seed want = record { circuit = circuitOf c; seed = seed; scheme = want .scheme }
+garblingOf c seed want = record { circuit = circuitOf c; seed = seed; run = want .run; scheme = want .scheme }
 
 -- "the lowest bit of its last byte"
 unfoldable pub colour : Block → ℕ
@@ -34,9 +35,14 @@ coloured t = set t 15 (getD t 15 0 / 2 * 2 + 1)
 unfoldable pub distance : Block → Block → Block
 distance s t = s ⊕ t
 
--- "AES under the seed of block i": the one place where the seed is used
+-- "The block enciphered under the seed becomes the run number in the first 8 bytes and the wire number (0 for R) in the last 8, both
+-- big-endian." (02, job 4)
+unfoldable pub runBlock : ℕ → ℕ → Block
+runBlock run i = bytesOf 8 run ++ bytesOf 8 i
+
+-- 01's "AES under the seed of block i", of that block: the one place where the seed and the run number are used
 unfoldable pub seedBlock : Garbling → ℕ → Block
-seedBlock γ i = aes (γ .seed) (block i)
+seedBlock γ i = aes (γ .seed) (runBlock (γ .run) i)
 
 -- "R, the seed's offset, is AES under the seed of block 0, with its colour set to 1."
 unfoldable pub offset : Garbling → Block

@@ -61,8 +61,9 @@ pub struct Sizes {
     pub p: usize,
 }
 
-// What garbling is asked for beside the circuit and the seed (01, Operations): the scheme, by its byte.
+// What garbling is asked for beside the circuit and the seed: the run number (02, job 4), and the scheme by its byte (01, Operations).
 pub struct Wanted {
+    pub run: u64,
     pub scheme: u8,
 }
 

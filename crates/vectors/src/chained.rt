@@ -1,11 +1,13 @@
 // Whether a case agrees with the chain of garble, encode, evaluate and decode. Before the call every byte of the six lent
 // buffers is the case's fill; after it the last two, of the wires' tokens and the outputs' bits, must hold the case's bytes.
-ghost use mathlib.Core.Path.{_≡_};
+ghost use Prim.Native.Nat.{_≤_};
 ghost use lib.ListN.{length};
 use cases::answer::done;
 use cases::answer::refused_by;
 use cases::answer::room_at;
 use cases::room;
+use cases::setting::fits;
+use cases::setting::wanted;
 use chain::Chained;
 use check::same;
 use model::Wanted;
@@ -26,7 +28,7 @@ fn chain_leaves(
     circuit: &[u8],
     seed: &[u8],
     values: &[u8],
-    scheme: u8,
+    wanted: Wanted,
     answer: &[u8],
     after_wires: &[u8],
     after_bits: &[u8],
@@ -40,7 +42,7 @@ fn chain_leaves(
     let c = chain::chain(
         circuit,
         seed,
-        Wanted { scheme },
+        wanted,
         values,
         material,
         zeros,
@@ -67,7 +69,7 @@ fn chain_made(
     zeros: &mut [u8],
     ones: &mut [u8],
 ) -> bool
-    requires { ⌜ length (now setting) ≡ 26 ⌝ }
+    requires { ⌜ 26 ≤ length (now setting) ⌝ }
 {
     let before = setting[1];
     let mut tokens = room::some(before);
@@ -80,7 +82,7 @@ fn chain_made(
         circuit,
         seed,
         values,
-        setting[0],
+        wanted(setting, 26),
         answer,
         after_wires,
         after_bits,
@@ -93,8 +95,8 @@ fn chain_made(
     )
 }
 
-// Circuit, seed, values, setting (scheme, fill, the lengths of six buffers: 1 byte, 1 and 4 each), the answer, and the last
-// two buffers.
+// Circuit, seed, values, setting (scheme, fill, the lengths of six buffers: 1 byte, 1 and 4 each; the run number: none, or 8), the
+// answer, and the last two buffers.
 pub fn chain_run(
     circuit: &[u8],
     seed: &[u8],
@@ -104,7 +106,10 @@ pub fn chain_run(
     after_wires: &[u8],
     after_bits: &[u8],
 ) -> bool {
-    if setting.len() != 26 {
+    if setting.len() < 26 {
+        return false;
+    }
+    if !fits(setting, 26) {
         return false;
     }
     let before = setting[1];

@@ -66,9 +66,15 @@ fn run_one_operand() {
     run_file(12, b"chain-one-operand");
 }
 
+// Cases of the second implementation with run numbers (02, job 4).
+fn run_runs() {
+    run_file(12, b"chain-runs");
+}
+
 fn main() {
     run_outside();
     run_stored();
     run_generated();
     run_one_operand();
+    run_runs();
 }

@@ -12,9 +12,9 @@ use Rattle.model.specs.Refusals.{Verdict, verdictOf}
 use Rattle.model.specs.Operations.{Answer, Made, checkedOf, garbledOf}
 use Rattle.weighhare.specs.Out.{Out, out, verdictOut, sizesOut, madeOut, callsOut, Handed}
 
--- what a scheme byte asks for is the garbling by that scheme
-wanted-scheme : (c seed : List ℕ) (k : ℕ) → garblingOf c seed (record { scheme = k }) ≡ record { circuit = circuitOf c; seed = seed; scheme = k }
-wanted-scheme c seed k = refl
+-- what a run number and a scheme byte ask for is the garbling of that run by that scheme
+wanted-garbling : (c seed : List ℕ) (run scheme : ℕ) → garblingOf c seed (record { run = run; scheme = scheme }) ≡ record { circuit = circuitOf c; seed = seed; run = run; scheme = scheme }
+wanted-garbling c seed run scheme = refl
 
 -- an operation's answer r is `of r` in the model's terms; it is the case k
 of-case : {R X : Type 0} (Is : X → Type 0) (of : R → X) (outOf : X → Out) (number : ℕ) (words : List ℕ) (r k : R)

@@ -47,15 +47,17 @@ pub extern "C" fn weighhare_plain(
 pub extern "C" fn weighhare_garble(
     circuit: &[u8],
     seed: &[u8],
+    run: u64,
     scheme: u8,
     material: &mut [u8],
     zeros: &mut [u8],
     ones: &mut [u8],
     answer: &mut [u64; 4],
 ) -> u8
-    ensures { λ r. ⌜ Handed (λ x. GarbleIs (now (circuit .entry)) (now (seed .entry)) (record { scheme = scheme }) (now (material .entry)) (now (zeros .entry)) (now (ones .entry)) x (now (material .exit)) (now (zeros .exit)) (now (ones .exit))) madeOut r (now (answer .exit)) ⌝ }
+    ensures { λ r. ⌜ Handed (λ x. GarbleIs (now (circuit .entry)) (now (seed .entry)) (record { run = run; scheme = scheme }) (now (material .entry)) (now (zeros .entry)) (now (ones .entry)) x (now (material .exit)) (now (zeros .exit)) (now (ones .exit))) madeOut r (now (answer .exit)) ⌝ }
 {
-    match garble::garble(circuit, seed, Wanted { scheme }, material, zeros, ones) {
+    let wanted = Wanted { run, scheme };
+    match garble::garble(circuit, seed, wanted, material, zeros, ones) {
         Garbled::Refused(f) => refused(answer, f),
         Garbled::Done { length, calls } => results(answer, length, calls, 0, 0),
     }

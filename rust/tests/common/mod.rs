@@ -12,7 +12,7 @@ pub const GATES: [Gate; 3] = [
     Gate { a: 4, b: 5, code: 1 },
 ];
 
-/// The seed of every garbling here.
+/// The seed of every garbling here. Their run number is 0 where nothing else is said.
 pub const SEED: [u8; 16] = [7; 16];
 
 /// A byte that buffers are filled with, to see what is written.
@@ -40,6 +40,7 @@ pub fn garbling(scheme: u8) -> Garbling {
     let garbled = weighhare::garble(
         &AND,
         &SEED,
+        0,
         scheme,
         &mut garbling.material,
         &mut garbling.zeros,

@@ -1,6 +1,6 @@
 //! Prints AES-128 encryptions to be compared with an outside one: of this implementation, and of the
 //! proved library as far as its C interface shows them. A line is a source, a key, blocks, and what
-//! the source says they are encrypted to; `offset` has the last bit set to 1 (01, Tokens).
+//! the source says they are encrypted to; `offset` has the last bit set to 1 (01, Tokens; 02, job 4).
 
 #[path = "../archive.rs"]
 mod archive;
@@ -10,9 +10,10 @@ use std::{env, process};
 use second::aes::Key;
 use second::block::{Block, BLOCK};
 use second::call::{Call, Operation};
-use second::generate::{call_on, circuit, seed};
+use second::generate::{add_run, call_on, circuit, seed};
 use second::hex::text;
 use second::random::Random;
+use second::token::run_block;
 
 /// A line of this implementation: any key, any blocks.
 fn second_line(random: &mut Random) -> String {
@@ -37,20 +38,23 @@ fn archive_buffers(call: &Call) -> Vec<Vec<u8>> {
     answer.buffers
 }
 
-/// Lines of garble: block i under the seed is the zero token of input i, and block 0 is R.
+/// Lines of garble, in any run: under the seed, the run's block of number i is the zero token of input
+/// i, and that of number 0 is R.
 fn seed_lines(random: &mut Random) -> String {
     let inputs = random.between(2, 9);
     let bytes = circuit(random, inputs as u16, 3, 50);
-    let call = call_on(random, Operation::Garble, &bytes);
+    let mut call = call_on(random, Operation::Garble, &bytes);
+    add_run(random, &mut call);
     let buffers = archive_buffers(&call);
-    let numbers: Vec<u8> = (1..=inputs).flat_map(|i| Block::number(i).0).collect();
+    let block = |number| run_block(call.run, number).0;
+    let numbers: Vec<u8> = (1..=inputs).flat_map(block).collect();
     let zeros = &buffers[1][..BLOCK * inputs];
     let offset = Block::list(zeros)[0] ^ Block::list(&buffers[2])[0];
     let key = text(&call.seed);
     let blocks = format!("seed {key} {} {}", text(&numbers), text(zeros));
     format!(
         "{blocks}\noffset {key} {} {}",
-        text(&Block::ZERO.0),
+        text(&block(0)),
         text(&offset.0)
     )
 }

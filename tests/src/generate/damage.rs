@@ -1,6 +1,6 @@
 //! Calls damaged so that a chosen condition holds (01, Turned down, by number).
 
-use super::{call, room, use_one_operand, CHARGED, FREE, ONE_OPERAND};
+use super::{add_run, call, room, use_one_operand, CHARGED, FREE, ONE_OPERAND};
 use crate::block::BLOCK;
 use crate::call::{Call, Operation};
 use crate::circuit::Gate;
@@ -25,10 +25,11 @@ pub fn damaged_call(random: &mut Random, operation: Operation, numbers: &[u8]) -
     }
 }
 
-/// The same with sound gates of all codes.
+/// The same with sound gates of all codes, and of garble in any run.
 pub fn any_damaged_call(random: &mut Random, operation: Operation, numbers: &[u8]) -> Call {
     let mut call = damaged_call(random, operation, numbers);
     use_one_operand(random, codes(&mut call));
+    add_run(random, &mut call);
     call
 }
 

@@ -1,7 +1,7 @@
 //! The edges of the refusals: from sound calls on small circuits, every argument is moved across
 //! each of its limits, one step at a time. Which refusal is due is not known here.
 
-use super::{call_on, circuit, room, with_one_operand};
+use super::{add_run, call_on, circuit, room, with_one_operand};
 use crate::block::BLOCK;
 use crate::call::{Call, Operation};
 use crate::circuit::Gate;
@@ -22,7 +22,7 @@ struct Edges {
     found: Vec<Edge>,
 }
 
-/// All edges of an operation.
+/// All edges of an operation, each of garble in a run of its own.
 pub fn edges(random: &mut Random, operation: Operation) -> Vec<Edge> {
     let mut found = Vec::new();
     for (n, q, charged) in [(2, 1, 100), (3, 2, 0), (5, 9, 60)] {
@@ -32,6 +32,9 @@ pub fn edges(random: &mut Random, operation: Operation) -> Vec<Edge> {
             let base = with_scheme(random, operation, &bytes, scheme);
             found.extend(around(base));
         }
+    }
+    for edge in &mut found {
+        add_run(random, &mut edge.call);
     }
     found
 }

@@ -2,7 +2,7 @@
 //! Faults are at the far end, where a place needs the most bits.
 
 use super::edges::Edge;
-use super::{call_on, circuit, room, with_one_operand};
+use super::{add_run, call_on, circuit, room, with_one_operand};
 use crate::block::BLOCK;
 use crate::call::{Call, Operation};
 use crate::random::Random;
@@ -29,7 +29,8 @@ struct Calls {
     found: Vec<Edge>,
 }
 
-/// The calls of an operation on the shape of that number; none past the last.
+/// The calls of an operation on the shape of that number, each of garble in a run of its own; none
+/// past the last.
 pub fn calls(random: &mut Random, operation: Operation, shape: usize) -> Option<Vec<Edge>> {
     let &(n, q, charged) = SHAPES.get(shape)?;
     let bytes = circuit(random, n, q, charged);
@@ -54,6 +55,9 @@ pub fn calls(random: &mut Random, operation: Operation, shape: usize) -> Option<
     calls.of_lists();
     if !calls.base.material.is_empty() {
         calls.of_material();
+    }
+    for edge in &mut calls.found {
+        add_run(random, &mut edge.call);
     }
     Some(calls.found)
 }

@@ -2,7 +2,7 @@
 //! tampered with, or noise. What must come of them is not known here.
 
 use super::damage::any_damaged_call;
-use super::{any_call, call_on, circuit, program_input, room, with_one_operand};
+use super::{add_run, any_call, call_on, circuit, program_input, room, with_one_operand};
 use crate::call::{Call, Operation};
 use crate::random::Random;
 
@@ -45,7 +45,9 @@ fn sized(random: &mut Random, operation: Operation, n: u16, q: u16) -> Call {
     let charged = random.one_of(&[5, 50, 100]);
     let bytes = circuit(random, n, q, charged);
     let bytes = with_one_operand(random, bytes);
-    call_on(random, operation, &bytes)
+    let mut call = call_on(random, operation, &bytes);
+    add_run(random, &mut call);
+    call
 }
 
 /// A call with so many conditions met at once.

@@ -48,13 +48,14 @@ pub fn arguments(call: &Call) -> String {
     let Call {
         n,
         m,
+        run,
         scheme,
         wire,
         bit,
         ..
     } = call;
     lines.push(format!(
-        "  n {n}, m {m}, scheme {scheme}, wire {wire}, bit {bit} (where it has one)"
+        "  n {n}, m {m}, run {run:016x}, scheme {scheme}, wire {wire}, bit {bit} (where it has one)"
     ));
     lines.push(format!(
         "  output buffers of {:?} bytes, fill {}",

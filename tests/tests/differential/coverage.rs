@@ -1,4 +1,4 @@
-//! How often each refusal of each operation was met, and which codes of gates.
+//! How often each refusal of each operation was met, which codes of gates, and which runs.
 
 use std::collections::{BTreeMap, BTreeSet};
 
@@ -14,6 +14,21 @@ pub struct Coverage {
     taken: BTreeSet<u8>,
     /// The codes at the places of refusal 7.
     refused: BTreeSet<u8>,
+    /// The calls of garble that gave each number, by the kind of their run.
+    runs: BTreeMap<(&'static str, u8), u64>,
+}
+
+/// The kinds of run numbers.
+const KINDS: [&str; 4] = ["0", "in the low half", "in the high half", "in both halves"];
+
+/// Which kind a run number is of: where it has bits.
+fn kind(run: u64) -> &'static str {
+    match (run >> 32, run as u32) {
+        (0, 0) => KINDS[0],
+        (0, _) => KINDS[1],
+        (_, 0) => KINDS[2],
+        _ => KINDS[3],
+    }
 }
 
 /// The codes of the gates handed in, in order, and the wire number of the first.
@@ -33,6 +48,10 @@ impl Coverage {
     pub fn count(&mut self, call: &Call, answer: &Answer) {
         let of_number = (call.operation, answer.number);
         *self.numbers.entry(of_number).or_insert(0) += 1;
+        if call.operation == Operation::Garble {
+            let of_run = (kind(call.run), answer.number);
+            *self.runs.entry(of_run).or_insert(0) += 1;
+        }
         if answer.number == 0 {
             self.taken.extend(codes(call).0);
         }
@@ -67,6 +86,22 @@ impl Coverage {
         }
         if *refused != others {
             missing.push(format!("codes refused {refused:?}, not 0 and 15 to 255"));
+        }
+        missing
+    }
+
+    /// Garble gave every answer in runs of each kind (02, job 4): prints how often it was done, and
+    /// gives what was not met.
+    pub fn report_runs(&self) -> Vec<String> {
+        let met = |kind, number| self.runs.get(&(kind, number)).copied().unwrap_or(0);
+        let mut missing = Vec::new();
+        for kind in KINDS {
+            println!("coverage: garble, run {kind}: done {}", met(kind, 0));
+            for &number in [0].iter().chain(Operation::Garble.refusals()) {
+                if met(kind, number) == 0 {
+                    missing.push(format!("garble, run {kind}, never gave {number}"));
+                }
+            }
         }
         missing
     }

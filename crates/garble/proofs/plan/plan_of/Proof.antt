@@ -1,6 +1,6 @@
 use borrow.Author.Needs.{needs}
 use mathlib.Core.Path.{refl, ap, _∙_}
-use Rattle.model.specs.Aes.{block, cipher, aes}
+use Rattle.model.specs.Aes.{aes}
 use Rattle.model.specs.Tokens.{coloured}
 use Rattle.garble.proofs.plan.plan_of.Statement.{statement}
 use Rattle.garble.proofs.plan.plan_of.Tie as tie
@@ -13,7 +13,7 @@ returns c = record {
   is-stored = c .before .before .before .rows-stored .ensures .0;
   is-stride = c .before .before .record-length .ensures .0;
   is-n = refl;
-  is-offset = c .coloured .ensures ∙ ap coloured (c .before .seed-block .ensures ∙ ap (λ w. cipher w (block 0)) (c .before .before .before .before .pre .1));
+  is-offset = c .coloured .ensures ∙ ap coloured (c .before .seed-block .ensures ∙ rw (c .before .before .before .before .pre .1));
 }
 
 pub plan-of-spec : {M : Type 1} → statement M

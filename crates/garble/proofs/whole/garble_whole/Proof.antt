@@ -11,8 +11,12 @@ plan-of-requires c κs =
 
 garble-front-requires : tie.Need-garble-front-requires
 garble-front-requires c κs =
-    let boxed = c .before .before .before .before .before .before .before .before .before .before .before .before .before in
-    (boxed .s-box .ensures, whole-front _ _ _ _ _ _ _ (boxed .before .before .before .before .before .before .pre))
+    let planned = c .before .before .before .before .before in
+    let expanded = planned .before .before .before in
+    let loaded = expanded .before .before in
+    let boxed = loaded .before .before .before in
+    let pre = boxed .before .before .before .before .before .before .pre in
+    (boxed .s-box .ensures, whole-front _ _ _ _ _ _ _ pre _ _ _ (loaded .load .ensures) (expanded .expand-key .ensures) (planned .plan-of .ensures))
 
 garble-body-requires : tie.Need-garble-body-requires
 garble-body-requires c κs =
