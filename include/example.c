@@ -1,6 +1,6 @@
 /*
- * An AND gate garbled, evaluated from its bytes and from a list of gates, and decoded, for each pair of input values; then
- * two refusals. C11, and C++17 too.
+ * An AND gate garbled, evaluated from its bytes and from a list of gates, and decoded, for each pair of input values: all from
+ * one seed, each a run of its own. Then two refusals. C11, and C++17 too.
  */
 #define _DEFAULT_SOURCE /* explicit_bzero */
 #include "weighhare.h"
@@ -27,22 +27,18 @@ static int refused(const char *operation, uint8_t number, const uint64_t answer[
     return number != WEIGHHARE_DONE;
 }
 
-static int run(uint8_t scheme, uint8_t u, uint8_t v) {
+/* One garbling and its evaluation. Whether something refused. */
+static int work(const uint8_t seed[16], uint64_t run, uint8_t scheme, uint8_t u, uint8_t v) {
     const uint8_t values[2] = {u, v};
-    uint8_t seed[16], material[80], zeros[3 * 16], ones[2 * 16], tokens[2 * 16], wires[3 * 16], same[3 * 16], bit[1];
+    uint8_t material[80], zeros[3 * 16], ones[2 * 16], tokens[2 * 16], wires[3 * 16], same[3 * 16], bit[1];
     uint64_t answer[4];
     size_t length;
 
-    /* The garbler's side: a seed for this garbling alone, which is its run 0. It sends the material, and a token for each
-     * input. */
-    if (getrandom(seed, sizeof seed, 0) != 16) {
-        printf("no seed\n");
-        return 1;
-    }
-    if (refused("garble", weighhare_garble(and_gate, sizeof and_gate, seed, sizeof seed, 0, scheme, material,
-                                           sizeof material, zeros, sizeof zeros, ones, sizeof ones, answer), answer)) return 1;
+    /* The garbler's side: a run number that no other garbling from this seed has. It sends the material, and a token for
+     * each input. */
+    if (refused("garble", weighhare_garble(and_gate, sizeof and_gate, seed, 16, run, scheme, material, sizeof material,
+                                           zeros, sizeof zeros, ones, sizeof ones, answer), answer)) return 1;
     length = (size_t)answer[0];
-    explicit_bzero(seed, sizeof seed);
     if (refused("encode", weighhare_encode(and_gate, sizeof and_gate, values, sizeof values, zeros, 2 * 16, ones, sizeof ones,
                                            tokens, sizeof tokens, answer), answer)) return 1;
     explicit_bzero(zeros, sizeof zeros);
@@ -63,14 +59,29 @@ static int run(uint8_t scheme, uint8_t u, uint8_t v) {
     return 0;
 }
 
-int main(void) {
-    uint64_t answer[4];
+/* Each pair of values by each scheme, in runs 0 to 11 of the seed. Whether something refused. */
+static int work_all(const uint8_t seed[16]) {
+    uint64_t run = 0;
     uint8_t scheme, pair;
     for (scheme = WEIGHHARE_GAX; scheme <= WEIGHHARE_HALF_GATES; scheme++) {
         for (pair = 0; pair < 4; pair++) {
-            if (run(scheme, (uint8_t)(pair >> 1), (uint8_t)(pair & 1))) return 1;
+            if (work(seed, run++, scheme, (uint8_t)(pair >> 1), (uint8_t)(pair & 1))) return 1;
         }
     }
+    return 0;
+}
+
+int main(void) {
+    uint64_t answer[4];
+    uint8_t seed[16];
+    int failed;
+    if (getrandom(seed, sizeof seed, 0) != 16) {
+        printf("no seed\n");
+        return 1;
+    }
+    failed = work_all(seed);
+    explicit_bzero(seed, sizeof seed);
+    if (failed) return 1;
     refused("check of 7 bytes", weighhare_check(and_gate, 7, answer), answer);
     refused("check of code 0", weighhare_check(no_gate, sizeof no_gate, answer), answer);
     return 0;

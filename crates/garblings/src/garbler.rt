@@ -1,4 +1,5 @@
-// Whether a case agrees with garble. Before the call every byte of the lent buffers is the case's fill; after it they must hold the case's bytes, or after a refusal still nothing but the fill.
+// Whether a case agrees with garble. Before the call every byte of the lent buffers is the case's fill; after it they must hold the
+// case's bytes, or after a refusal still nothing but the fill.
 use cases::answer::garbled;
 use cases::answer::room_at;
 use cases::fill::left;
@@ -28,7 +29,8 @@ fn garble_leaves(
     garbled(g, answer) & x_left & y_left & z_left
 }
 
-// Circuit, seed, setting (scheme, fill, the lengths of three buffers: 1 byte, 1 and 4 each; the run number: none, or 8), the answer, and the buffers.
+// Circuit, seed, setting (scheme, fill, the lengths of three buffers: 1 byte, 1 and 4 each; the run number: none, or 8), the answer,
+// and the buffers.
 pub fn garble_run(
     circuit: &[u8],
     seed: &[u8],

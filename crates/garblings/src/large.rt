@@ -1,6 +1,6 @@
 // Whether a large garbling agrees. The case is 86 bytes: the circuit's rule (n, m, q and the period of 2 bytes each, the
-// generator's start of 4), the seed, the scheme (its run number is 0), the answer (00, the length and the calls), and the fingerprints of the
-// material, the zero tokens and the one tokens. No such case is refused.
+// generator's start of 4), the seed, the scheme, the answer (00, the length and the calls), and the fingerprints of the
+// material, the zero tokens and the one tokens. No such case is refused, and all are of run 0.
 ghost use Prim.Native.Nat.{_<_};
 use crate::fingerprint::fingerprint;
 use crate::rule::Rule;

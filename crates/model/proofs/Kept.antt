@@ -1,5 +1,5 @@
 -- What document 02 says of what was there before. Assumes nothing.
-use Prim.Native.Nat.{ℕ, zero, suc, _+_, _^_, _≤_, _<_}
+use Prim.Native.Nat.{ℕ, zero, suc, _+_, _≤_, _<_}
 use native.Mathlib.Decide.{decLt}
 use native.Mathlib.Nat.{le-of-suc-le-suc, not-suc-le-zero}
 use native.Mathlib.Omega.{arith}
@@ -9,11 +9,10 @@ use mathlib.Core.List.{List, [], _∷_, _++_}
 use borrow.Author.Tests.{le-leb, eqb-true}
 use lib.Dec.{eqb, leb}
 use lib.ListN.{length, length-append, getD, take, drop}
-use lib.Seq.{take-at, drop-at}
 use Rattle.model.specs.declared.Gate.{Gate}
-use Rattle.model.specs.Bytes.{from, tabulate, number, bytesOf}
+use Rattle.model.specs.Bytes.{from, tabulate, bytesOf}
 use Rattle.model.specs.Circuit.{Circuit, Kind, charged, free, refused, kinds, kindOf, value, charges, codeAt, circuitOf, inputs, gates, gateAt, gateWire, wire, wires, gateValue, plainValues}
-use Rattle.model.specs.Aes.{Block, _⊕_, block, times, aes}
+use Rattle.model.specs.Aes.{Block, _⊕_, block, times}
 use Rattle.model.specs.Tokens.{Garbling, coloured, runBlock, seedBlock, offset, inputZeros, oneToken, freeZero, freeToken}
 use Rattle.model.specs.Scheme.{Site, Scheme, recordLength}
 use Rattle.model.specs.Gax.{dualKey, gax}
@@ -23,11 +22,10 @@ use Rattle.model.specs.Garbling.{schemeOf, siteOf, zeroAt, zeroStep, zer
 use Rattle.model.specs.Material.{recordOf, records, lastRecord, material}
 use Rattle.model.specs.Evaluation.{openAt, openStep, past, openGates, evaluate}
 use Rattle.model.specs.Refusals.{fine, isRefused, _then_, headVerdict, gateVerdict, recordVerdict, circuitVerdict, circuitSizes, rowStart, rowVerdict, materialVerdict}
-use Rattle.model.specs.Kept.{LeftRefused, ZeroPassedOn, TokenPassedOn, PassedOn, kinds01, kind01, kindValue, chargesBy, gateValueBy, gateVerdictBy, recordVerdictBy, circuitVerdictBy, rowVerdictBy, materialVerdictBy, offsetBy, inputZerosBy, inputOnesBy, siteBy, halfABy, halfBBy, rowGBy, rowEBy, halfBy, schemeBy, zeroAtBy, zeroStepBy, zeroTokensBy, recordOfBy, recordsBy, lastRecordBy, materialBy, openStepBy, openGatesBy, evaluateBy, SameBytes, seedBlock01, RunZero, RunsApart}
+use Rattle.model.specs.Kept.{LeftRefused, ZeroPassedOn, TokenPassedOn, PassedOn, kinds01, kind01, kindValue, chargesBy, gateValueBy, gateVerdictBy, recordVerdictBy, circuitVerdictBy, rowVerdictBy, materialVerdictBy, offsetBy, inputZerosBy, inputOnesBy, siteBy, halfABy, halfBBy, rowGBy, rowEBy, halfBy, schemeBy, zeroAtBy, zeroStepBy, zeroTokensBy, recordOfBy, recordsBy, lastRecordBy, materialBy, openStepBy, openGatesBy, evaluateBy, SameBytes, seedBlock01, RunZero}
 use Rattle.model.proofs.Bits.{Bit, b0, b1, bit-of, bit-small}
 use Rattle.model.proofs.Codes.{value-bit, past-table, in-table}
-use Rattle.model.proofs.Number.{Bytes, all-bytes, leading-zeros, length-bytes, number-bytes, of-number, both}
-use Rattle.model.proofs.Permutation.{aes-apart}
+use Rattle.model.proofs.Number.{leading-zeros}
 use Rattle.model.proofs.Lists.{agree, from-cong, tabulate-length}
 use Rattle.model.proofs.Blocks.{Blocks, blocks-length, blocks-wide, cut-blocks}
 use Rattle.model.proofs.Schemes.{scheme-sound}
@@ -275,17 +273,17 @@ module _ (K : ℕ → Kind) (B : ℕ → Block) (γ : Garbling) (top : ℕ) (sam
   unfolding offsetBy offset
   offset-same = ap coloured (same 0 (omega arith))
 
-  module _ (xs : List Block) (g : Gate) (within : length xs < top) (same-kind : K (g .code) ≡ kindOf (g .code)) where
+  module _ (xs : List Block) (g : Gate) (within : length xs < top) (agrees : K (g .code) ≡ kindOf (g .code)) where
     site-same : siteBy B xs g ≡ siteOf γ xs g
     unfolding siteBy siteOf
     site-same = rw (offset-same, same (suc (length xs)) (omega arith))
 
     zero-step-same : zeroStepBy K B γ xs g ≡ zeroStep γ xs g
     unfolding zeroStepBy zeroStep
-    zero-step-same = rw (site-same, same-kind) (zero-at-same K (siteOf γ xs g) (unfold siteOf in same-kind) γ _)
+    zero-step-same = rw (site-same, agrees) (zero-at-same K (siteOf γ xs g) (unfold siteOf in agrees) γ _)
 
     record-same : recordOfBy K γ (K (g .code)) (siteBy B xs g) ≡ recordOf γ (kindOf (g .code)) (siteOf γ xs g)
-    record-same = rw (site-same, same-kind) (record-of-same K (siteOf γ xs g) (unfold siteOf in same-kind) γ _)
+    record-same = rw (site-same, agrees) (record-of-same K (siteOf γ xs g) (unfold siteOf in agrees) γ _)
 
   -- one wire more
   grown : (xs : List Block) (x : Block) (k : ℕ) → length xs + suc k ≤ top → length (xs ++ (x ∷ [])) + k ≤ top
@@ -423,35 +421,3 @@ module _ (c : List ℕ) (e : circuitVerdict c ≡ fine) (γ : Garbling) (is-c : 
 
 pub run-zero-01 : (c : List ℕ) → circuitVerdictBy kind01 c ≡ fine → (γ : Garbling) → γ .circuit ≡ circuitOf c → γ .run ≡ 0 → RunZero kind01 γ
 run-zero-01 c e γ is-c run-0 = by-rule c (same-bytes c e .accepted) γ is-c run-0 kind01 (kinds-01 c e γ is-c)
-
--- ---- runs apart
-
--- a number of 64 bits is told by its 8 bytes
-told : (x y : ℕ) → x < 2 ^ 64 → y < 2 ^ 64 → bytesOf 8 x ≡ bytesOf 8 y → x ≡ y
-told x y h k e = omega (arith, sym (number-bytes 8 x) ∙ ap number e ∙ number-bytes 8 y)
-
-block-told : (run run′ i i′ : ℕ) → (run < 2 ^ 64) × (run′ < 2 ^ 64) → (i < 2 ^ 64) × (i′ < 2 ^ 64) → runBlock run i ≡ runBlock run′ i′ → (run ≡ run′) × (i ≡ i′)
-unfolding runBlock
-block-told run run′ i i′ h k e =
-    let l : length (bytesOf 8 run) ≡ 8 = length-bytes 8 run in
-    let l′ : length (bytesOf 8 run′) ≡ 8 = length-bytes 8 run′ in
-    let first : bytesOf 8 run ≡ bytesOf 8 run′ = sym (take-at _ (bytesOf 8 i) 8 l) ∙ ap (take 8) e ∙ take-at _ (bytesOf 8 i′) 8 l′ in
-    let last : bytesOf 8 i ≡ bytesOf 8 i′ = sym (drop-at (bytesOf 8 run) _ 8 l) ∙ ap (drop 8) e ∙ drop-at (bytesOf 8 run′) _ 8 l′ in
-    (told run run′ (h .0) (h .1) first, told i i′ (k .0) (k .1) last)
-
-block-bytes : (run i : ℕ) → Bytes (runBlock run i)
-unfolding runBlock
-block-bytes run i = both (of-number 8 run) (of-number 8 i)
-
-block-long : (run i : ℕ) → length (runBlock run i) ≡ 16
-unfolding runBlock
-block-long run i = length-append (bytesOf 8 run) (bytesOf 8 i) ∙ omega (arith, length-bytes 8 run, length-bytes 8 i)
-
-pub runs-apart : RunsApart
-unfolding seedBlock
-runs-apart γ γ′ i i′ one e =
-    let b = runBlock (γ .run) i in
-    let b′ = runBlock (γ′ .run) i′ in
-    let same-key : aes (γ .seed) b ≡ aes (γ .seed) b′ = e ∙ ap (λ k. aes k b′) (sym (one .same-seed)) in
-    block-told (γ .run) (γ′ .run) i i′ (one .run-numbers) (one .wire-numbers)
-    (aes-apart (all-bytes (γ .seed) (one .bytes)) (block-bytes (γ .run) i) (block-bytes (γ′ .run) i′) (block-long (γ .run) i) (block-long (γ′ .run) i′) same-key)

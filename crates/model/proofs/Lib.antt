@@ -40,3 +40,4 @@ pub mod OwnMaterial
 pub mod Records
 pub mod Demand3
 pub mod Kept
+pub mod Runs

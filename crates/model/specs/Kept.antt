@@ -1,5 +1,5 @@
 -- What document 02 says of what was there before, a part for each job that says so. The theorems are in proofs/Kept.antt.
-use Prim.Native.Nat.{ℕ, _+_, _*_, _-_, _^_, _≤_, _<_}
+use Prim.Native.Nat.{ℕ, _+_, _*_, _-_, _≤_, _<_}
 use mathlib.Core.Path.{_≡_}
 use mathlib.Core.Bool.{not, cond, _&&_, _||_}
 use mathlib.Core.List.{List, [], _∷_, _++_, map}
@@ -220,15 +220,3 @@ pub record RunZero (K : ℕ → Kind) (γ : Garbling) : Type 0 where
   pub zeros : zeroTokens γ ≡ zeroTokensBy K (seedBlock01 γ) γ
   pub ones : inputOnes γ ≡ inputOnesBy (seedBlock01 γ) γ
   pub rows : material γ ≡ materialBy K (seedBlock01 γ) γ
-
--- ---- two pairs of a run and a wire give the same block under a seed only if they are the same pair
-
--- garblings from one seed, which is of bytes, and a wire of each; runs and wires are numbers of 64 bits
-pub record OneSeed (γ γ′ : Garbling) (i i′ : ℕ) : Type 0 where
-  pub same-seed : γ .seed ≡ γ′ .seed
-  pub bytes : (k : ℕ) → getD (γ .seed) k 0 < 256
-  pub run-numbers : (γ .run < 2 ^ 64) × (γ′ .run < 2 ^ 64)
-  pub wire-numbers : (i < 2 ^ 64) × (i′ < 2 ^ 64)
-
-abbrev pub RunsApart : Type 0
-RunsApart = (γ γ′ : Garbling) (i i′ : ℕ) → OneSeed γ γ′ i i′ → seedBlock γ i ≡ seedBlock γ′ i′ → (γ .run ≡ γ′ .run) × (i ≡ i′)

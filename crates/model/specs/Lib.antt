@@ -1,5 +1,5 @@
 -- What is meant: document 01, a file for each of its sections, in its order, with the jobs of document 02 that are done; Kept says what those leave
--- as it was. Definitions only: laws are in proofs/.
+-- as it was, and Runs what garblings from one seed have in common. Definitions only: laws are in proofs/.
 pub mod Bytes
 pub mod Decimal
 pub mod Circuit
@@ -19,3 +19,4 @@ pub mod Program
 pub mod Demand3
 pub mod Examples
 pub mod Kept
+pub mod Runs
