@@ -1,11 +1,11 @@
 -- A round but the last: the key, and then what each column gives to those after it. Assumes nothing.
-use mathlib.Core.Path.{_≡_, sym, ap, _∙_}
+use mathlib.Core.Path.{_≡_, ap, _∙_}
 use mathlib.Core.List.{List}
 use Prim.Native.Nat.{ℕ, _+_, _%_}
-use lib.Bits.{bitXor, xor-comm}
+use lib.Bits.{bitXor}
 use lib.ListN.{getD}
 use Rattle.model.specs.Aes.{addRoundKey, aesRound}
-use Rattle.model.proofs.Xor.{xor-assoc}
+use Rattle.model.proofs.XorRules.{sums}
 use Rattle.aes.specs.declared.packed.Words.{Words}
 use Rattle.aes.specs.Tables.{byteOf, stateOf, IsTTables}
 use Rattle.aes.specs.Round.{IsRoundKey, Spread}
@@ -14,11 +14,7 @@ use Rattle.aes.proofs.Columns.{state, mixed-state, keyed-state}
 
 -- the first of five, last
 key-last : (k p q r s : ℕ) → bitXor (bitXor (bitXor (bitXor k p) q) r) s ≡ bitXor (bitXor (bitXor (bitXor p q) r) s) k
-key-last k p q r s =
-    ap (λ (z : ℕ). bitXor (bitXor z r) s) (xor-assoc k p q)
-    ∙ ap (λ (z : ℕ). bitXor z s) (xor-assoc k (bitXor p q) r)
-    ∙ xor-assoc k (bitXor (bitXor p q) r) s
-    ∙ xor-comm k (bitXor (bitXor (bitXor p q) r) s)
+key-last k p q r s = simp sums
 
 module _ (m : List ℕ) where
   -- row i of a column x, looked up

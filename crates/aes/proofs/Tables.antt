@@ -3,14 +3,14 @@ use mathlib.Core.Path.{_≡_, refl, sym, ap, ap₂, _∙_}
 use mathlib.Core.List.{List, [], _∷_, map}
 use Prim.Native.Nat.{ℕ, _+_, _*_, _/_, _%_, _^_, _<_}
 use native.Mathlib.Omega.{arith}
-use lib.Bits.{bitAnd, bitXor, xor-comm, xor-zero-r}
+use lib.Bits.{bitAnd, bitXor, xor-zero-r}
 use lib.ListN.{getD, List·getD-map}
 use Rattle.model.specs.Bytes.{tabulate}
 use Rattle.model.specs.Aes.{xtime, mulBits, gmul, sBox, mixByte, mixWord, subWord}
 use Rattle.model.proofs.Lists.{entry}
-use Rattle.model.proofs.Xor.{xor-assoc}
+use Rattle.model.proofs.XorRules.{sums}
 use Rattle.aes.specs.Tables.{byteOf, wordOf, alone, IsTTables}
-use Rattle.model.proofs.Mix.{mixed}
+use Rattle.model.proofs.Mix.{mix-sum}
 use Rattle.aes.proofs.Packing.{four, xor4, xor4-each, words-xor4, picked}
 
 -- ---- the tables
@@ -25,7 +25,7 @@ quickWord w = tabulate 4 (λ r. quickByte (getD w r 0) (getD w ((r + 1) % 4) 0) 
 quick-is : (w : List ℕ) → quickWord w ≡ mixWord w
 unfolding mixWord
 quick-is w =
-    let byte : (a b c d : ℕ) → quickByte a b c d ≡ mixByte a b c d = λ a b c d. mixed a b c d (xtime a) (xtime b) refl refl in
+    let byte : (a b c d : ℕ) → quickByte a b c d ≡ mixByte a b c d = λ a b c d. sym (mix-sum a b c d) in
     four (byte _ _ _ _) (byte _ _ _ _) (byte _ _ _ _) (byte _ _ _ _)
 
 -- the S-box's byte for x, as it stands in table 0
@@ -74,7 +74,7 @@ each e f g h = cc
 
 -- the first of four, last
 pub turn : (a b c d : ℕ) → bitXor (bitXor (bitXor a b) c) d ≡ bitXor (bitXor (bitXor b c) d) a
-turn a b c d = ap (λ (z : ℕ). bitXor z d) (xor-assoc a b c) ∙ xor-assoc a (bitXor b c) d ∙ xor-comm a (bitXor (bitXor b c) d)
+turn a b c d = simp sums
 
 -- a column is the exclusive or of its rows, each alone, and MixColumns of it is that of theirs
 mix-rows : (a b c d : ℕ) → xor4 (mixWord (alone 0 a)) (mixWord (alone 1 b)) (mixWord (alone 2 c)) (mixWord (alone 3 d)) ≡ mixWord (a ∷ b ∷ c ∷ d ∷ [])

@@ -1,5 +1,4 @@
 -- Bytes stay bytes: in GF(2^8), in each step of AES, and in a key's schedule. Assumes nothing.
-use mathlib.Core.Path.{refl}
 use mathlib.Core.Bool.{Bool, true, false, cond}
 use mathlib.Core.List.{List, [], _∷_}
 use Prim.Native.Nat.{ℕ, zero, suc, _+_, _-_, _*_, _/_, _%_, _^_, _<_}
@@ -12,7 +11,7 @@ use Rattle.model.specs.Bytes.{tabulate}
 use Rattle.model.specs.Aes.{Block, _⊕_, xtime, mulBits, gmul, squares, inverse, affineBit, affineBits, sBox, subBytes, shiftRows, column, mixByte, mixWord, mixColumns, roundKey, addRoundKey, xorWord, rotWord, subWord, powerOfX, rcon, temp, nextWord, expandBy, aesRound, rounds}
 use Rattle.model.proofs.Number.{Bytes, more, from-bytes, byte-at, both}
 use Rattle.model.proofs.Bits.{Bit, b0, b1, bit-mod}
-use Rattle.model.proofs.Mix.{xtime-byte, mixed}
+use Rattle.model.proofs.Mix.{xtime-byte, mix-sum}
 
 -- those at some places of a list
 picked : {l : List ℕ} → Bytes l → (n : ℕ) (f : ℕ → ℕ) → Bytes (tabulate n (λ k. getD l (f k) 0))
@@ -51,7 +50,7 @@ inverse-byte a h = product-byte 8 (mulBits 8 a a) _ (product-byte 8 a a h)
 
 mix-byte : (a b c d : ℕ) → a < 256 → b < 256 → c < 256 → d < 256 → mixByte a b c d < 256
 mix-byte a b c d ha hb hc hd =
-    rw (← mixed a b c d (xtime a) (xtime b) refl refl)
+    rw (mix-sum a b c d)
     (xor-byte _ d (xor-byte _ c (xor-byte _ _ (xtime-byte a ha) (xor-byte _ b (xtime-byte b hb) hb)) hc) hd)
 
 power-byte : (k : ℕ) → powerOfX k < 256

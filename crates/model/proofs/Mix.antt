@@ -3,20 +3,10 @@ use mathlib.Core.Path.{_≡_, refl, sym, ap, ap₂, _∙_}
 use Prim.Native.Nat.{ℕ, _+_, _*_, _/_, _%_, _^_, _<_}
 use native.Mathlib.Nat.{add-zero, zero-mul, one-mul}
 use native.Mathlib.Omega.{arith}
-use lib.Bits.{bitXor, xor-self, xor-block, xor-zero-l, xor-zero-r, xor-comm, xor-lt, xor-shr}
+use lib.Bits.{bitXor, xor-self, xor-block, xor-zero-r, xor-comm, xor-lt, xor-shr}
 use Rattle.model.specs.Aes.{xtime, mulBits, gmul, mixByte}
 use Rattle.model.proofs.Bits.{Bit, b0, b1, bit-of}
-use Rattle.model.proofs.Xor.{xor-assoc}
-
--- ---- sums of numbers, as rules for `simp`, which with them decides equations of such sums
-
-pub xor-left : (a b c : ℕ) → bitXor a (bitXor b c) ≡ bitXor b (bitXor a c)
-xor-left a b c = sym (xor-assoc a b c) ∙ ap (λ (x : ℕ). bitXor x c) (xor-comm a b) ∙ xor-assoc b a c
-
-pub xor-self-left : (a b : ℕ) → bitXor a (bitXor a b) ≡ b
-xor-self-left a b = sym (xor-assoc a a b) ∙ ap (λ (x : ℕ). bitXor x b) (xor-self a) ∙ xor-zero-l b
-
-pub ruleset sums = (xor-assoc, xor-comm, xor-left, xor-self, xor-self-left, xor-zero-l, xor-zero-r)
+use Rattle.model.proofs.XorRules.{sums}
 
 -- ---- products
 
@@ -62,3 +52,7 @@ three a = simp (zero-mul, one-mul, xor-zero-r, xor-comm)
 pub mixed : (a b c d p q : ℕ) → p ≡ xtime a → q ≡ xtime b → bitXor (bitXor (bitXor p (bitXor q b)) c) d ≡ mixByte a b c d
 unfolding mixByte
 mixed a b c d p q e f = cc (two a, three b)
+
+-- as a sum
+pub mix-sum : (a b c d : ℕ) → mixByte a b c d ≡ bitXor (bitXor (bitXor (xtime a) (bitXor (xtime b) b)) c) d
+mix-sum a b c d = sym (mixed a b c d (xtime a) (xtime b) refl refl)

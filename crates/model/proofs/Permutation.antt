@@ -14,7 +14,8 @@ use Rattle.model.proofs.Number.{Bytes, byte-at}
 use Rattle.model.proofs.Table.{every, at}
 use Rattle.model.proofs.Field.{inverse-twice}
 use Rattle.model.proofs.Xor.{⊕-length, ⊕-assoc, ⊕-self, ⊕-zero}
-use Rattle.model.proofs.Mix.{sums, xtime-sum, mixed}
+use Rattle.model.proofs.Mix.{xtime-sum, mix-sum}
+use Rattle.model.proofs.XorRules.{sums}
 use Rattle.model.proofs.AesBytes.{xor-byte, inverse-byte, sub-bytes, shift-bytes, rounds-bytes, expand-bytes}
 
 -- ---- each step undone
@@ -76,10 +77,6 @@ unMix p q r t =
     let second = bitXor p (bitXor q (xtime third)) in
     bitXor p (bitXor all (xtime second))
 
--- a mixed byte as a sum
-opened : (a b c d : ℕ) → mixByte a b c d ≡ bitXor (bitXor (bitXor (xtime a) (bitXor (xtime b) b)) c) d
-opened a b c d = sym (mixed a b c d (xtime a) (xtime b) refl refl)
-
 module _ (a b c d : ℕ) (ha : a < 256) (hb : b < 256) (hc : c < 256) (hd : d < 256) where
   mix-undone : unMix (mixByte a b c d) (mixByte b c d a) (mixByte c d a b) (mixByte d a b c) ≡ a
   unfolding unMix
@@ -87,13 +84,13 @@ module _ (a b c d : ℕ) (ha : a < 256) (hb : b < 256) (hc : c < 256) (hd : d < 
       let whole : xtime (bitXor a (bitXor b (bitXor c d))) ≡ bitXor (xtime a) (bitXor (xtime b) (bitXor (xtime c) (xtime d))) =
       rw (xtime-sum a _ ha (xor-byte b _ hb (xor-byte c d hc hd)), xtime-sum b _ hb (xor-byte c d hc hd), xtime-sum c d hc hd) in
       let all : bitXor (mixByte a b c d) (bitXor (mixByte b c d a) (bitXor (mixByte c d a b) (mixByte d a b c))) ≡ bitXor a (bitXor b (bitXor c d)) =
-      rw (opened a b c d, opened b c d a, opened c d a b, opened d a b c) (simp sums) in
+      rw (mix-sum a b c d, mix-sum b c d a, mix-sum c d a b, mix-sum d a b c) (simp sums) in
       let third : bitXor (mixByte a b c d) (bitXor (mixByte c d a b) (bitXor (xtime a) (bitXor (xtime b) (bitXor (xtime c) (xtime d))))) ≡ bitXor a c =
-      rw (opened a b c d, opened c d a b) (simp sums) in
+      rw (mix-sum a b c d, mix-sum c d a b) (simp sums) in
       let second : bitXor (mixByte a b c d) (bitXor (mixByte b c d a) (bitXor (xtime a) (xtime c))) ≡ bitXor a b =
-      rw (opened a b c d, opened b c d a) (simp sums) in
+      rw (mix-sum a b c d, mix-sum b c d a) (simp sums) in
       let first : bitXor (mixByte a b c d) (bitXor (bitXor a (bitXor b (bitXor c d))) (bitXor (xtime a) (xtime b))) ≡ a =
-      rw (opened a b c d) (simp sums) in
+      rw (mix-sum a b c d) (simp sums) in
       rw (all, whole, third, xtime-sum a c ha hc, second, xtime-sum a b ha hb) first
 
 -- column by column, each byte with the three that come after it in its column

@@ -1,8 +1,22 @@
--- Exclusive or of blocks as rules for `simp`, which with them decides equations of such sums. Assumes nothing.
+-- Exclusive or of numbers, and of blocks, as rules for `simp`, which with them decides equations of such sums. Assumes nothing.
 use mathlib.Core.Path.{_≡_, refl, sym, ap, _∙_}
+use Prim.Native.Nat.{ℕ}
+use lib.Bits.{bitXor, xor-self, xor-zero-l, xor-zero-r, xor-comm}
 use lib.ListN.{length}
 use Rattle.model.specs.Aes.{Block, _⊕_, block, times}
-use Rattle.model.proofs.Xor.{⊕-length, ⊕-assoc, ⊕-comm, ⊕-self, ⊕-zero}
+use Rattle.model.proofs.Xor.{xor-assoc, ⊕-length, ⊕-assoc, ⊕-comm, ⊕-self, ⊕-zero}
+
+-- ---- numbers
+
+pub xor-left : (a b c : ℕ) → bitXor a (bitXor b c) ≡ bitXor b (bitXor a c)
+xor-left a b c = sym (xor-assoc a b c) ∙ ap (λ (x : ℕ). bitXor x c) (xor-comm a b) ∙ xor-assoc b a c
+
+pub xor-self-left : (a b : ℕ) → bitXor a (bitXor a b) ≡ b
+xor-self-left a b = sym (xor-assoc a a b) ∙ ap (λ (x : ℕ). bitXor x b) (xor-self a) ∙ xor-zero-l b
+
+pub ruleset sums = (xor-assoc, xor-comm, xor-left, xor-self, xor-self-left, xor-zero-l, xor-zero-r)
+
+-- ---- blocks
 
 pub ⊕-left : (a b c : Block) → a ⊕ (b ⊕ c) ≡ b ⊕ (a ⊕ c)
 ⊕-left a b c = sym (⊕-assoc a b c) ∙ ap (_⊕ c) (⊕-comm a b) ∙ ⊕-assoc b a c
