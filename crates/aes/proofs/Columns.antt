@@ -5,9 +5,11 @@ use Prim.Native.Nat.{ℕ, _+_, _*_, _<_}
 use native.Mathlib.Omega.{arith}
 use lib.Bits.{bitXor}
 use lib.ListN.{getD, length}
-use Rattle.model.specs.Aes.{Block, _⊕_, subBytes, shiftRows, column, mixWord, mixColumns, roundKey, addRoundKey, word, xorWord, subWord}
+use Rattle.model.specs.Aes.{Block, _⊕_, subBytes, shiftRows, column, mixWord, mixColumns, roundKey, word, subWord}
 use Rattle.model.proofs.Lists.{entry, elements}
-use Rattle.aes.specs.Tables.{byteOf, wordOf}
+use Rattle.aes.specs.declared.packed.Words.{Words}
+use Rattle.aes.specs.Tables.{byteOf, wordOf, stateOf}
+use Rattle.aes.specs.Round.{IsRoundKey}
 use Rattle.aes.proofs.Packing.{four, word-xor}
 
 abbrev joined : List ℕ → List ℕ → List ℕ → List ℕ → Block
@@ -51,11 +53,15 @@ key-column w r c h =
     λ j l. ap (λ (n : ℕ). getD w n 0) (omega arith) ∙ sym (entry 0 16 (λ i. getD w (16 * r + i) 0) (j + 4 * c) (omega arith)) in
     four (byte 0 (omega arith)) (byte 1 (omega arith)) (byte 2 (omega arith)) (byte 3 (omega arith))
 
-pub keyed-state : (w : List ℕ) (r a b c d p q s t : ℕ) → wordOf p ≡ word w (4 * r) → wordOf q ≡ word w (4 * r + 1) → wordOf s ≡ word w (4 * r + 2) → wordOf t ≡ word w (4 * r + 3) →
-    state (bitXor a p) (bitXor b q) (bitXor c s) (bitXor d t) ≡ addRoundKey w r (state a b c d)
-unfolding addRoundKey _⊕_ roundKey wordOf
-keyed-state w r a b c d p q s t e f g h =
-    let e0 : 4 * r ≡ 4 * r + 0 = omega arith in
-    let each : (x k c : ℕ) → c < 4 → wordOf k ≡ word w (4 * r + c) → wordOf (bitXor x k) ≡ xorWord (wordOf x) (column (roundKey w r) c) =
-    λ x k c l z. word-xor x k ∙ ap (xorWord (wordOf x)) (z ∙ key-column w r c l) in
-    join (each a p 0 (omega arith) (e ∙ ap (word w) e0)) (each b q 1 (omega arith) f) (each c s 2 (omega arith) g) (each d t 3 (omega arith) h)
+-- a state with another exclusive-ored in
+pub added-state : (a b c d p q s t : ℕ) → state (bitXor a p) (bitXor b q) (bitXor c s) (bitXor d t) ≡ state a b c d ⊕ state p q s t
+unfolding _⊕_ wordOf
+added-state a b c d p q s t = join (word-xor a p) (word-xor b q) (word-xor c s) (word-xor d t)
+
+-- the round key of four packed words
+pub key-state : (w : List ℕ) (r : ℕ) (k : Words) → IsRoundKey w r k → stateOf k ≡ roundKey w r
+unfolding stateOf roundKey
+key-state w r k is-k =
+    let e : 4 * r ≡ 4 * r + 0 = omega arith in
+    join (is-k .is-a ∙ ap (word w) e ∙ key-column w r 0 (omega arith)) (is-k .is-b ∙ key-column w r 1 (omega arith))
+    (is-k .is-c ∙ key-column w r 2 (omega arith)) (is-k .is-d ∙ key-column w r 3 (omega arith))

@@ -5,5 +5,6 @@ mod Rounds
 mod Packing
 mod Tables
 mod Columns
+mod NextKeys
 mod Spreads
 mod FoldedLaws

@@ -4,8 +4,12 @@ use mathlib.Core.List.{List}
 use Prim.Native.Nat.{ℕ, suc, _+_, _-_, _<_, _≤_}
 use native.Mathlib.Omega.{arith}
 use lib.ListN.{length}
-use Rattle.model.specs.Aes.{Block, subBytes, shiftRows, mixColumns, addRoundKey, aesRound, rounds, cipher, IsExpansion, keyExpansion, fixedKey, aes, π}
+use Rattle.model.specs.Aes.{Block, _⊕_, subBytes, shiftRows, mixColumns, addRoundKey, aesRound, rounds, cipher, IsExpansion, keyExpansion, fixedKey, aes, π}
 use Rattle.model.proofs.Expansion.{expansion-only}
+use Rattle.aes.specs.declared.packed.Words.{Words}
+use Rattle.aes.specs.Tables.{stateOf}
+use Rattle.aes.specs.Round.{IsRoundKey}
+use Rattle.aes.proofs.Columns.{key-state}
 
 -- what holds of the state s before round r, when s₀ was the state before round 1: it is made from any block b that the first AddRoundKey takes
 -- to s₀
@@ -55,9 +59,17 @@ round-is w r s a b c q is-q is-c is-b is-a = rw (is-q, is-c, is-b, is-a)
 pub last-is : (w : List ℕ) (s a b q : Block) → q ≡ addRoundKey w 10 b → b ≡ shiftRows a → a ≡ subBytes s → q ≡ addRoundKey w 10 (shiftRows (subBytes s))
 last-is w s a b q is-q is-b is-a = rw (is-q, is-b, is-a)
 
--- the same of packed columns: a and b are the states after the first two steps and after the third
-pub packed-last-is : (w : List ℕ) (s a b q : Block) → q ≡ b → b ≡ addRoundKey w 10 a → a ≡ shiftRows (subBytes s) → q ≡ addRoundKey w 10 (shiftRows (subBytes s))
-packed-last-is w s a b q is-q is-b is-a = rw (is-q, is-b, is-a)
+-- the same of packed columns, from the round's key k: a is the state after the steps before it
 
-pub start-is : (w : List ℕ) (x a q : Block) → q ≡ addRoundKey w 0 a → a ≡ x → q ≡ addRoundKey w 0 x
-start-is w x a q is-q is-a = rw (is-q, is-a)
+pub last-keyed : (s a b k q : Block) → q ≡ b → b ≡ a ⊕ k → a ≡ shiftRows (subBytes s) → q ≡ shiftRows (subBytes s) ⊕ k
+last-keyed s a b k q is-q is-b is-a = rw (is-q, is-b, is-a)
+
+-- which is that of round r in the schedule w
+module _ (w : List ℕ) (r : ℕ) (k : Words) (is-k : IsRoundKey w r k) where
+  pub added : (s q : Block) → q ≡ s ⊕ stateOf k → q ≡ addRoundKey w r s
+  unfolding addRoundKey
+  added s q e = e ∙ ap (λ (x : Block). s ⊕ x) (key-state w r k is-k)
+
+  pub round-keyed : (s q : Block) → q ≡ mixColumns (shiftRows (subBytes s)) ⊕ stateOf k → q ≡ aesRound w r s
+  unfolding aesRound
+  round-keyed s q e = added _ q e

@@ -4,13 +4,13 @@ use mathlib.Core.List.{List}
 use Prim.Native.Nat.{ℕ, _+_, _%_}
 use lib.Bits.{bitXor}
 use lib.ListN.{getD}
-use Rattle.model.specs.Aes.{addRoundKey, aesRound}
+use Rattle.model.specs.Aes.{Block, _⊕_, subBytes, shiftRows, mixColumns}
 use Rattle.model.proofs.XorRules.{sums}
 use Rattle.aes.specs.declared.packed.Words.{Words}
 use Rattle.aes.specs.Tables.{byteOf, stateOf, IsTTables}
-use Rattle.aes.specs.Round.{IsRoundKey, Spread}
+use Rattle.aes.specs.Round.{Spread}
 use Rattle.aes.proofs.Tables.{turn, mixed-word}
-use Rattle.aes.proofs.Columns.{state, mixed-state, keyed-state}
+use Rattle.aes.proofs.Columns.{state, mixed-state, added-state}
 
 -- the first of five, last
 key-last : (k p q r s : ℕ) → bitXor (bitXor (bitXor (bitXor k p) q) r) s ≡ bitXor (bitXor (bitXor (bitXor p q) r) s) k
@@ -65,26 +65,25 @@ module _ (m : List ℕ) where
     pub is-d : v .d ≡ bitXor (made (s .d) (s .a) (s .b) (s .c)) (k .d)
     is-d = rw (four .row-0, three .row-3, two .row-2, one .row-1) (from-1 (k .d) (s .d) (s .a) (s .b) (s .c))
 
-  -- and the words k are the key of round r of the schedule w
-  module _ (is-m : IsTTables m) (w : List ℕ) (r : ℕ) (s k v : Words) (is-k : IsRoundKey w r k) where
-    pub keyed-round :
-        v .a ≡ bitXor (made (s .a) (s .b) (s .c) (s .d)) (k .a)
-        → v .b ≡ bitXor (made (s .b) (s .c) (s .d) (s .a)) (k .b)
-        → v .c ≡ bitXor (made (s .c) (s .d) (s .a) (s .b)) (k .c)
-        → v .d ≡ bitXor (made (s .d) (s .a) (s .b) (s .c)) (k .d)
-        → stateOf v ≡ aesRound w r (stateOf s)
-    unfolding aesRound stateOf
-    keyed-round a b c d =
-        rw (a, b, c, d)
-        (keyed-state w r _ _ _ _ (k .a) (k .b) (k .c) (k .d) (is-k .is-a) (is-k .is-b) (is-k .is-c) (is-k .is-d)
-        ∙ ap (addRoundKey w r)
-        (mixed-state (s .a) (s .b) (s .c) (s .d) _ _ _ _ (mixed-word m is-m (s .a) (s .b) (s .c) (s .d))
-        (mixed-word m is-m (s .b) (s .c) (s .d) (s .a)) (mixed-word m is-m (s .c) (s .d) (s .a) (s .b))
-        (mixed-word m is-m (s .d) (s .a) (s .b) (s .c))))
+  -- and the words k are a round's key
+  pub keyed-round : IsTTables m → (s k v : Words)
+      → v .a ≡ bitXor (made (s .a) (s .b) (s .c) (s .d)) (k .a)
+      → v .b ≡ bitXor (made (s .b) (s .c) (s .d) (s .a)) (k .b)
+      → v .c ≡ bitXor (made (s .c) (s .d) (s .a) (s .b)) (k .c)
+      → v .d ≡ bitXor (made (s .d) (s .a) (s .b) (s .c)) (k .d)
+      → stateOf v ≡ mixColumns (shiftRows (subBytes (stateOf s))) ⊕ stateOf k
+  unfolding stateOf
+  keyed-round is-m s k v a b c d =
+      rw (a, b, c, d)
+      (added-state _ _ _ _ (k .a) (k .b) (k .c) (k .d)
+      ∙ ap (λ (x : Block). x ⊕ stateOf k)
+      (mixed-state (s .a) (s .b) (s .c) (s .d) _ _ _ _ (mixed-word m is-m (s .a) (s .b) (s .c) (s .d))
+      (mixed-word m is-m (s .b) (s .c) (s .d) (s .a)) (mixed-word m is-m (s .c) (s .d) (s .a) (s .b))
+      (mixed-word m is-m (s .d) (s .a) (s .b) (s .c))))
 
 -- a round whose columns are spread into its key
-pub round-state : (m : List ℕ) → IsTTables m → (w : List ℕ) (r : ℕ) (s k : Words) → IsRoundKey w r k → (p q u v : Words) →
-    Spread m k (s .a) p → Spread m p (s .b) q → Spread m q (s .c) u → Spread m u (s .d) v → stateOf v ≡ aesRound w r (stateOf s)
-round-state m is-m w r s k is-k p q u v one two three four =
-    keyed-round m is-m w r s k v is-k (is-a m s k p q u v one two three four) (is-b m s k p q u v one two three four)
+pub round-state : (m : List ℕ) → IsTTables m → (s k p q u v : Words) →
+    Spread m k (s .a) p → Spread m p (s .b) q → Spread m q (s .c) u → Spread m u (s .d) v → stateOf v ≡ mixColumns (shiftRows (subBytes (stateOf s))) ⊕ stateOf k
+round-state m is-m s k p q u v one two three four =
+    keyed-round m is-m s k v (is-a m s k p q u v one two three four) (is-b m s k p q u v one two three four)
     (is-c m s k p q u v one two three four) (is-d m s k p q u v one two three four)

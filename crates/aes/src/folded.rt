@@ -4,7 +4,7 @@ use crate::packed::Words;
 use block::Block;
 ghost use mathlib.Core.Path.{_≡_};
 ghost use Prim.Native.Nat.{_<_};
-ghost use Rattle.model.specs.Aes.{addRoundKey, aesRound};
+ghost use Rattle.model.specs.Aes.{_⊕_, subBytes, shiftRows, mixColumns, addRoundKey, aesRound};
 ghost use Rattle.aes.specs.Tables.{stateOf, IsTTables};
 ghost use Rattle.aes.specs.Folded.{columns, Joined};
 
@@ -24,7 +24,7 @@ fn fold(low: u32, high: u32) -> u64
 
 impl Folded {
     // Columns, folded.
-    fn of_words(s: Words) -> Folded
+    pub fn of_words(s: Words) -> Folded
         ensures { λ r. ⌜ columns r ≡ s ⌝ }
     {
         let cd = fold(s.c, s.d);
@@ -50,15 +50,13 @@ impl Folded {
         Folded::of_words(Words::start(w, x))
     }
 
-    // A round but the last. Of the key the first two words come first and the last two last, folded: while they are exclusive-ored in
-    // as one word, the compiler keeps the two columns together.
-    pub fn round(self, tables: &[u32; 1024], w: &[u8; 176], r: usize) -> Folded
+    // A round but the last, by its key. Of the key the first two words come first and the last two last, folded: while they are
+    // exclusive-ored in as one word, the compiler keeps the two columns together.
+    pub fn keyed_round(self, tables: &[u32; 1024], k: Words) -> Folded
         requires { ⌜ IsTTables (now tables) ⌝ }
-        requires { ⌜ r < 11 ⌝ }
-        ensures { λ q. ⌜ stateOf (columns q) ≡ aesRound (now (w .entry)) r (stateOf (columns self)) ⌝ }
+        ensures { λ q. ⌜ stateOf (columns q) ≡ mixColumns (shiftRows (subBytes (stateOf (columns self)))) ⊕ stateOf k ⌝ }
     {
         let s = self.words();
-        let k = Words::round_key(w, r);
         let mixed = Words::two(k.a, k.b)
             .spread(tables, s.a)
             .spread(tables, s.b)
@@ -71,5 +69,15 @@ impl Folded {
             b: mixed.b,
             cd: made ^ key,
         }
+    }
+
+    // The same, round r under a schedule.
+    pub fn round(self, tables: &[u32; 1024], w: &[u8; 176], r: usize) -> Folded
+        requires { ⌜ IsTTables (now tables) ⌝ }
+        requires { ⌜ r < 11 ⌝ }
+        ensures { λ q. ⌜ stateOf (columns q) ≡ aesRound (now (w .entry)) r (stateOf (columns self)) ⌝ }
+    {
+        let k = Words::round_key(w, r);
+        self.keyed_round(tables, k)
     }
 }

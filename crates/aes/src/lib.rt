@@ -8,6 +8,7 @@ mod lookup; // SubBytes and MixColumns as tables
 mod packed; // the steps of a round by the tables
 mod folded; // the same with two columns in a word
 mod fast; // the rounds by the tables, of one block and of two
+mod rekeyed; // the same with key expansion beside them
 
 pub use cipher::encrypt;
 pub use cipher::encrypt_block;
@@ -19,6 +20,8 @@ pub use fast::permute_fast;
 pub use fast::permute_pair;
 pub use fixed::fixed_schedule;
 pub use lookup::t_tables;
+pub use rekeyed::encrypt_each_under;
+pub use rekeyed::encrypt_pair_under;
 pub use sbox::s_box;
 pub use schedule::expand_key;
 pub use steps::State;

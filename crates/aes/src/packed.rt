@@ -4,7 +4,7 @@ use block::Block;
 ghost use mathlib.Core.Path.{_≡_};
 ghost use mathlib.Core.List.{[], _∷_};
 ghost use Prim.Native.Nat.{_<_};
-ghost use Rattle.model.specs.Aes.{word, subWord, subBytes, shiftRows, addRoundKey, aesRound};
+ghost use Rattle.model.specs.Aes.{_⊕_, word, subWord, subBytes, shiftRows, mixColumns, addRoundKey, aesRound};
 ghost use Rattle.aes.specs.Tables.{byteOf, wordOf, stateOf, IsTTables};
 ghost use Rattle.aes.specs.Round.{IsRoundKey, Spread};
 
@@ -45,7 +45,7 @@ fn key_word(w: &[u8; 176], i: usize) -> u32
 }
 
 // A column through SubBytes and ShiftRows alone. Table 2 has the S-box's own byte in row 0, table 3 in row 1, and so on around.
-fn shifted_word(tables: &[u32; 1024], a: u32, b: u32, c: u32, d: u32) -> u32
+pub fn shifted_word(tables: &[u32; 1024], a: u32, b: u32, c: u32, d: u32) -> u32
     requires { ⌜ IsTTables (now tables) ⌝ }
     ensures { λ r. ⌜ wordOf r ≡ subWord (byteOf a 0 ∷ byteOf b 1 ∷ byteOf c 2 ∷ byteOf d 3 ∷ []) ⌝ }
 {
@@ -61,7 +61,7 @@ fn shifted_word(tables: &[u32; 1024], a: u32, b: u32, c: u32, d: u32) -> u32
 
 impl Words {
     // A block's columns.
-    fn of_block(x: Block) -> Words
+    pub fn of_block(x: Block) -> Words
         ensures { λ r. ⌜ stateOf r ≡ x .bytes ⌝ }
     {
         let s = x.bytes;
@@ -135,12 +135,10 @@ impl Words {
         Words { a, b, c, d }
     }
 
-    // AddRoundKey, §5.1.4: the key of round r is exclusive-ored in.
-    fn add_round_key(self, w: &[u8; 176], r: usize) -> Words
-        requires { ⌜ r < 11 ⌝ }
-        ensures { λ q. ⌜ stateOf q ≡ addRoundKey (now (w .entry)) r (stateOf self) ⌝ }
+    // AddRoundKey, §5.1.4: a round's key is exclusive-ored in.
+    pub fn add(self, k: Words) -> Words
+        ensures { λ q. ⌜ stateOf q ≡ stateOf self ⊕ stateOf k ⌝ }
     {
-        let k = Words::round_key(w, r);
         Words {
             a: self.a ^ k.a,
             b: self.b ^ k.b,
@@ -171,28 +169,46 @@ impl Words {
     pub fn start(w: &[u8; 176], x: Block) -> Words
         ensures { λ r. ⌜ stateOf r ≡ addRoundKey (now (w .entry)) 0 (x .bytes) ⌝ }
     {
-        Words::of_block(x).add_round_key(w, 0)
+        let k = Words::round_key(w, 0);
+        Words::of_block(x).add(k)
     }
 
-    // A round but the last. The key comes first and each column is looked up at once and then done with: so the columns before and
-    // after the round stay in registers.
-    pub fn round(self, tables: &[u32; 1024], w: &[u8; 176], r: usize) -> Words
+    // A round but the last, by its key. The key comes first and each column is looked up at once and then done with: so the columns
+    // before and after the round stay in registers.
+    pub fn keyed_round(self, tables: &[u32; 1024], k: Words) -> Words
         requires { ⌜ IsTTables (now tables) ⌝ }
-        requires { ⌜ r < 11 ⌝ }
-        ensures { λ q. ⌜ stateOf q ≡ aesRound (now (w .entry)) r (stateOf self) ⌝ }
+        ensures { λ q. ⌜ stateOf q ≡ mixColumns (shiftRows (subBytes (stateOf self))) ⊕ stateOf k ⌝ }
     {
-        let k = Words::round_key(w, r);
         k.spread(tables, self.a)
             .spread(tables, self.b)
             .spread(tables, self.c)
             .spread(tables, self.d)
     }
 
-    // The last round, which has no MixColumns.
+    // The same, round r under a schedule.
+    pub fn round(self, tables: &[u32; 1024], w: &[u8; 176], r: usize) -> Words
+        requires { ⌜ IsTTables (now tables) ⌝ }
+        requires { ⌜ r < 11 ⌝ }
+        ensures { λ q. ⌜ stateOf q ≡ aesRound (now (w .entry)) r (stateOf self) ⌝ }
+    {
+        let k = Words::round_key(w, r);
+        self.keyed_round(tables, k)
+    }
+
+    // The last round, which has no MixColumns, by its key.
+    pub fn keyed_last(self, tables: &[u32; 1024], k: Words) -> Block
+        requires { ⌜ IsTTables (now tables) ⌝ }
+        ensures { λ q. ⌜ q .bytes ≡ shiftRows (subBytes (stateOf self)) ⊕ stateOf k ⌝ }
+    {
+        self.shifted(tables).add(k).block()
+    }
+
+    // The same under a schedule.
     pub fn last_round(self, tables: &[u32; 1024], w: &[u8; 176]) -> Block
         requires { ⌜ IsTTables (now tables) ⌝ }
         ensures { λ q. ⌜ q .bytes ≡ addRoundKey (now (w .entry)) 10 (shiftRows (subBytes (stateOf self))) ⌝ }
     {
-        self.shifted(tables).add_round_key(w, 10).block()
+        let k = Words::round_key(w, 10);
+        self.keyed_last(tables, k)
     }
 }

@@ -1,4 +1,4 @@
--- Words of 8 bytes, and a block as two of them: bytes in either order, exclusive or, doubling. Assumes nothing.
+-- Words of 8 bytes, and a block as two of them: bytes in either order, exclusive or, σ, doubling. Assumes nothing.
 use mathlib.Core.Path.{_≡_, refl, sym, ap, ap₂, _∙_}
 use mathlib.Core.List.{List, [], _∷_, _++_}
 use Prim.Native.Nat.{ℕ, zero, suc, _+_, _-_, _*_, _/_, _%_, _^_, _<_}
@@ -10,6 +10,7 @@ use lib.ListN.{getD, length}
 use lib.Pow.{shr-shr}
 use Rattle.model.specs.Bytes.{tabulate, number, bytesOf}
 use Rattle.model.specs.Aes.{Block, _⊕_, block, times, double, quadruple}
+use Rattle.model.specs.Hashes.{sigma}
 use Rattle.model.proofs.Lists.{elements}
 use Rattle.block.specs.Halves.{lowFirst}
 use Rattle.model.proofs.Number.{Bytes, none, more, bytes-number, number-bytes, number-append, of-number, both, leading-zeros}
@@ -98,6 +99,12 @@ word-xor x y =
 pub halves-xor : (x y z w : ℕ) → halves (bitXor x z) (bitXor y w) ≡ halves x y ⊕ halves z w
 unfolding _⊕_ bytesOf
 halves-xor x y z w = ap₂ (λ (a b : List ℕ). a ++ b) (word-xor x z) (word-xor y w)
+
+-- ---- σ
+
+pub sigma-halves : (x y : ℕ) → halves (bitXor x y) x ≡ sigma (halves x y)
+unfolding sigma bytesOf
+sigma-halves x y = ap (λ (a : List ℕ). a ++ bytesOf 8 x) (word-xor x y)
 
 -- ---- doubling
 

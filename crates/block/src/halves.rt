@@ -6,6 +6,7 @@ ghost use mathlib.Core.List.{[], _∷_};
 ghost use Prim.Native.Nat.{_*_};
 ghost use Rattle.model.specs.Bytes.{number, bytesOf};
 ghost use Rattle.model.specs.Aes.{_⊕_, block, double};
+ghost use Rattle.model.specs.Hashes.{sigma};
 ghost use Rattle.block.specs.Halves.{lowFirst, blockOf};
 
 // The number's high and low half.
@@ -129,6 +130,16 @@ impl Halves {
         Halves {
             high: x.high,
             low: x.low ^ (out * 0x87),
+        }
+    }
+
+    // σ: "of left and right 8-byte halves .. (left ⊕ right, left)" (02, job 7).
+    pub fn sigma(self) -> Halves
+        ensures { λ r. ⌜ blockOf r ≡ sigma (blockOf self) ⌝ }
+    {
+        Halves {
+            high: self.high ^ self.low,
+            low: self.high,
         }
     }
 }

@@ -9,6 +9,7 @@ ghost use Prim.Native.Nat.{_+_, _*_, _≤_};
 ghost use lib.ListN.{length, take, drop};
 ghost use Rattle.model.specs.Bytes.{put};
 ghost use Rattle.model.specs.Aes.{_⊕_, block, double, quadruple};
+ghost use Rattle.model.specs.Hashes.{sigma};
 ghost use Rattle.model.specs.Tokens.{colour, coloured, decoded};
 
 // "A block is 16 bytes."
@@ -59,6 +60,13 @@ impl Block {
         ensures { λ r. ⌜ r .bytes ≡ quadruple (self .bytes) ⌝ }
     {
         Halves::of_block(self).doubled().doubled().block()
+    }
+
+    // σ of the halves (02, job 7).
+    pub fn sigma(self) -> Block
+        ensures { λ r. ⌜ r .bytes ≡ sigma (self .bytes) ⌝ }
+    {
+        Halves::of_block(self).sigma().block()
     }
 }
 

@@ -47,14 +47,14 @@ pub fn check_tokens(k: usize, tokens: &[u8]) -> Ran
     Ran::Done
 }
 
-// 14: the scheme is not 1, 2 or 3.
+// 14: the scheme is not 1, 2, 3 or 4.
 pub fn check_scheme(scheme: u8) -> Ran
     ensures { λ r. ⌜ ranOf r ≡ schemeVerdict scheme ⌝ }
 {
     if scheme < 1 {
         return Ran::Refused(Refusal::Scheme(scheme));
     }
-    if 3 < scheme {
+    if 4 < scheme {
         return Ran::Refused(Refusal::Scheme(scheme));
     }
     Ran::Done

@@ -22,7 +22,7 @@ use Rattle.model.specs.Garbling.{schemeOf}
 use Rattle.model.specs.Tokens.{freeToken}
 use Rattle.model.specs.Material.{joinBlocks, lastStart, materialLength}
 use Rattle.model.specs.Evaluation.{cut, openAt, openStep, openGates, evaluate, evaluateBytes, tokenAt}
-use Rattle.model.specs.Calls.{evaluateAsks, evaluateCallsAt, evaluateCalls}
+use Rattle.model.specs.Calls.{openedCalls, evaluateCallsAt, evaluateCalls}
 use Rattle.model.specs.Operations.{evaluateCallsOf}
 use Rattle.model.specs.Refusals.{isRefused}
 use Rattle.model.proofs.Bits.{Bit, b0, b1, bit-of}
@@ -70,7 +70,7 @@ charged-opens S (free p q c) h g bs A B = absurd (omega arith)
 charged-opens S refused h g bs A B = absurd (omega arith)
 
 -- and its calls
-charged-calls : (scheme : ℕ) (k : Kind) → charge k ≡ 1 → (g : ℕ) (A B : Block) → evaluateCallsAt scheme k g A B ≡ length (evaluateAsks scheme g A B)
+charged-calls : (scheme : ℕ) (k : Kind) → charge k ≡ 1 → (g : ℕ) (A B : Block) → evaluateCallsAt scheme k g A B ≡ length (openedCalls scheme g A B)
 unfolding evaluateCallsAt
 charged-calls scheme (charged u v x) h g A B = refl
 charged-calls scheme (free p q c) h g A B = absurd (omega arith)
@@ -141,7 +141,7 @@ module _ (n k : ℕ) (g : Gate) (d : List ℕ) (B : Block) (is-B : B ≡ take 16
       chosen false = sym is-B
 
   pub charged-done : (A : Block) → A ≡ take 16 (drop (16 * (g .a .0 - 1)) d) → (scheme : ℕ) (s : List ℕ) (at : ℕ) → charge (kindOf (g .code)) ≡ 1 → (r : OpenedGate) → d′ ≡ put d (16 * (n + k)) (r .token .bytes)
-      → OpenedIs (schemeOf scheme .opened (n + k + 1) (cut (schemeOf scheme .stored) (drop 4 (drop at s))) A B) (evaluateAsks scheme (n + k + 1) A B) r
+      → OpenedIs (schemeOf scheme .opened (n + k + 1) (cut (schemeOf scheme .stored) (drop 4 (drop at s))) A B) (openedCalls scheme (n + k + 1) A B) r
       → TokenIs scheme n k g s at d (at + recordLength (schemeOf scheme)) (r .calls) d′
   unfolding tokenAt
   charged-done A is-A scheme s at h r is-d is-r = record {
@@ -155,7 +155,7 @@ pub ruleset token-cases = (token-own, token-low-b, token-load-a, token-load-b, t
 pub charged-room : (scheme code at : ℕ) (s : List ℕ) → GateRoom scheme code at s → charge (kindOf code) ≡ 1 → RecordRoom scheme at s
 charged-room scheme code at s r h = let l = rw h at (r .room) in record { known = r .known; room = omega arith }
 
--- at most two calls of π for a gate
+-- at most two encryptions for a gate
 pub few-made : (scheme n k : ℕ) (g : Gate) (s : List ℕ) (at : ℕ) (d : List ℕ) (next made : ℕ) (d′ : List ℕ) → TokenIs scheme n k g s at d next made d′ → made ≤ 2
 few-made scheme n k g s at d next made d′ t =
     omega (

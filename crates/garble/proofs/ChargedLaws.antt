@@ -12,10 +12,11 @@ use Rattle.model.specs.Tokens.{runBlock}
 use Rattle.model.specs.Scheme as Model
 use Rattle.model.specs.Gax.{dualKey, valueAt, sealed, rowAt}
 use Rattle.model.specs.Gaxr.{reducedZero, gaxr}
-use Rattle.model.specs.HalfGates.{hash, halfA, halfB, rowG, rowE, joined, halfZero, half}
+use Rattle.model.specs.Hashes.{hashOf}
+use Rattle.model.specs.HalfGates.{halfA, halfB, rowG, rowE, joined, halfZero, half}
 use Rattle.model.specs.Garbling.{schemeOf}
-use Rattle.model.specs.Calls.{garbleAsks}
-use Rattle.model.proofs.Calls.{garble-asks-four}
+use Rattle.model.specs.Calls.{garbledCalls}
+use Rattle.model.proofs.Calls.{garbled-four}
 use Rattle.model.proofs.Places.{stored-low, stored-high}
 use Rattle.model.specs.declared.Wanted.{Wanted}
 use Rattle.block.specs.declared.Block as Struct
@@ -47,13 +48,13 @@ gaxr-rows : (f : Block) (s : Model.Site) → gaxr dualKey .rows (refreshed f s) 
 unfolding gaxr reducedZero rowAt sealed valueAt refreshed
 gaxr-rows f s = refl
 
-half-zero : (f : Block) (s : Model.Site) → half hash .zeroToken (refreshed f s) ≡ half hash .zeroToken s
+half-zero : (H : Block → ℕ → Block) (f : Block) (s : Model.Site) → half H .zeroToken (refreshed f s) ≡ half H .zeroToken s
 unfolding half halfZero joined rowG rowE halfA halfB refreshed
-half-zero f s = refl
+half-zero H f s = refl
 
-half-rows : (f : Block) (s : Model.Site) → half hash .rows (refreshed f s) ≡ half hash .rows s
+half-rows : (H : Block → ℕ → Block) (f : Block) (s : Model.Site) → half H .rows (refreshed f s) ≡ half H .rows s
 unfolding half rowG rowE halfA halfB refreshed
-half-rows f s = refl
+half-rows H f s = refl
 
 -- a scheme other than GaX has no use for it
 module _ (k : ℕ) (h : k ≡ 1 → ⊥) (f : Block) (s : Model.Site) where
@@ -61,21 +62,21 @@ module _ (k : ℕ) (h : k ≡ 1 → ⊥) (f : Block) (s : Model.Site) where
   unfolding schemeOf
   other-zero = rw (ne-eqb k 1 h) (go (eqb k 2))
     where
-      go : (b : Bool) → cond b (gaxr dualKey) (half hash) .zeroToken (refreshed f s) ≡ cond b (gaxr dualKey) (half hash) .zeroToken s
+      go : (b : Bool) → cond b (gaxr dualKey) (half (hashOf k)) .zeroToken (refreshed f s) ≡ cond b (gaxr dualKey) (half (hashOf k)) .zeroToken s
       go true = gaxr-zero f s
-      go false = half-zero f s
+      go false = half-zero (hashOf k) f s
 
   other-rows : schemeOf k .rows (refreshed f s) ≡ schemeOf k .rows s
   unfolding schemeOf
   other-rows = rw (ne-eqb k 1 h) (go (eqb k 2))
     where
-      go : (b : Bool) → cond b (gaxr dualKey) (half hash) .rows (refreshed f s) ≡ cond b (gaxr dualKey) (half hash) .rows s
+      go : (b : Bool) → cond b (gaxr dualKey) (half (hashOf k)) .rows (refreshed f s) ≡ cond b (gaxr dualKey) (half (hashOf k)) .rows s
       go true = gaxr-rows f s
-      go false = half-rows f s
+      go false = half-rows (hashOf k) f s
 
 -- a gate garbled by scheme k as a site says
 abbrev Made : ℕ → Model.Site → GarbledGate → Type 0
-Made k s made = GarbledIs (schemeOf k) (garbleAsks k s) s made
+Made k s made = GarbledIs (schemeOf k) (garbledCalls k s) s made
 
 -- what was garbled with what `fresh_block` gave is garbled as the site says
 module _ (w : List ℕ) (p : Plan) (f : Block) (g : GateIn) (made : GarbledGate) (fresh : FreshIs w (p .wanted) (g .own .0) f)
@@ -90,7 +91,7 @@ module _ (w : List ℕ) (p : Plan) (f : Block) (g : GateIn) (made : GarbledGate)
       record {
         is-zero = is .is-zero ∙ other-zero k h f (siteAt w p g);
         is-rows = is .is-rows ∙ other-rows k h f (siteAt w p g);
-        is-calls = is .is-calls ∙ garble-asks-four k (refreshed f (siteAt w p g)) ∙ sym (garble-asks-four k (siteAt w p g));
+        is-calls = is .is-calls ∙ garbled-four k (refreshed f (siteAt w p g)) ∙ sym (garbled-four k (siteAt w p g));
       }
 
   gate-is : Made (p .wanted .scheme) (siteAt w p g) made

@@ -13,7 +13,7 @@ use Rattle.model.specs.Scheme.{Site, recordLength}
 use Rattle.model.specs.Garbling.{Known, schemeOf, siteOf, zeroStep, zeroTokens}
 use Rattle.model.specs.Material.{joinBlocks, lastStart, materialLength, header, recordOf, records, material}
 use Rattle.model.specs.Evaluation.{tokenAt}
-use Rattle.model.specs.Calls.{garbleAsks, garbleCallsAt, garbleCalls}
+use Rattle.model.specs.Calls.{garbledCalls, garbleCallsAt, garbleCalls}
 use Rattle.model.specs.Refusals.{fine, circuitVerdict}
 use Rattle.circuit.specs.Accepted.{Accepted}
 use Rattle.garble.specs.Written.{InputsIs}
@@ -75,11 +75,11 @@ pub record ChargedStart (scheme stored code u v x : ℕ) (m : List ℕ) (at : �
   pub record-room : at + recordLength (schemeOf scheme) ≤ length m
   pub slot-room : slot + 16 ≤ length z
 
--- what it leaves, and the calls of π made
+-- what it leaves, and the encryptions made
 pub record ChargedIs (scheme : ℕ) (s : Site) (m : List ℕ) (at : ℕ) (z : List ℕ) (slot : ℕ) (m′ z′ : List ℕ) (calls : ℕ) : Type 0 where
   pub zeros-left : z′ ≡ put z slot (schemeOf scheme .zeroToken s)
   pub material-left : m′ ≡ put m at (0x47 ∷ 0x54 ∷ two (s .g) ++ joinBlocks (schemeOf scheme .rows s))
-  pub calls-made : calls ≡ length (garbleAsks scheme s)
+  pub calls-made : calls ≡ length (garbledCalls scheme s)
 
 -- ---- a gate
 

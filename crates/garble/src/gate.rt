@@ -1,11 +1,12 @@
-// A charged gate by value: from the zero tokens of its operands to its own and its rows (01, Scheme 1 to Scheme 3).
+// A charged gate by value: from the zero tokens of its operands to its own and its rows (01, Scheme 1 to Scheme 3;
+// 02, job 7).
 // A free gate's zero token is `scheme::free_zero`.
 ghost use mathlib.Core.Path.{_≡_};
 ghost use Rattle.aes.specs.Lent.{Lent};
 ghost use Rattle.aes.specs.Tables.{IsTTables};
 ghost use Rattle.model.specs.Circuit.{charged, kindOf};
 ghost use Rattle.model.specs.Garbling.{Known, schemeOf};
-ghost use Rattle.model.specs.Calls.{garbleAsks};
+ghost use Rattle.model.specs.Calls.{garbledCalls};
 ghost use Rattle.scheme.specs.Garbled.{GarbledIs};
 ghost use Rattle.garble.specs.Walk.{FreshIs, siteAt};
 use crate::plan::Plan;
@@ -52,7 +53,7 @@ pub fn make_charged(
     requires { ⌜ Lent (now tables) (now w) ⌝ }
     requires { ⌜ Known (plan .wanted .scheme) ⌝ }
     requires { ⌜ kindOf (g .code) ≡ charged (u .0) (v .0) (own .0) ⌝ }
-    ensures { λ r. ⌜ GarbledIs (schemeOf (plan .wanted .scheme)) (garbleAsks (plan .wanted .scheme) (siteAt (now (ws .entry)) plan g)) (siteAt (now (ws .entry)) plan g) r ⌝ }
+    ensures { λ r. ⌜ GarbledIs (schemeOf (plan .wanted .scheme)) (garbledCalls (plan .wanted .scheme) (siteAt (now (ws .entry)) plan g)) (siteAt (now (ws .entry)) plan g) r ⌝ }
 {
     let scheme = plan.wanted.scheme;
     let wire = g.own;

@@ -1,4 +1,4 @@
--- Conditions 12 to 18 written out over a circuit and the bytes of a material, with 01's own r = 4, 3, 2: they are `materialVerdict`. Assumes nothing.
+-- Conditions 12 to 18 written out over a circuit and the bytes of a material, with 01's own r = 4, 3, 2, and 2 for scheme 4: they are `materialVerdict`. Assumes nothing.
 use Prim.Native.Nat.{ℕ, _+_, _*_}
 use mathlib.Core.Path.{_≡_, refl}
 use mathlib.Core.Bool.{not, _&&_}
@@ -21,9 +21,9 @@ stopped i x fine a b c d a′ b′ c′ d′ = refl
 stopped i x (refused j y) a b c d a′ b′ c′ d′ = refl
 
 module _ (c : Circuit) (s : List ℕ) where
-  -- "its r rows (r = 4, 3, 2": by the scheme byte
+  -- "its r rows (r = 4, 3, 2": by the scheme byte; scheme 4 has "scheme 3's steps and rows" (02, job 7)
   abbrev r : ℕ
-  r = getD (0 ∷ 4 ∷ 3 ∷ 2 ∷ []) (getD s 2 0) 0
+  r = getD (0 ∷ 4 ∷ 3 ∷ 2 ∷ 2 ∷ []) (getD s 2 0) 0
 
   -- where a record starts, past those of the charged gates among the first k
   abbrev start : ℕ → ℕ

@@ -1,37 +1,39 @@
--- The calls of π: how many they are, that none is missing from a gate's list, and that none is listed twice. Assumes nothing.
+-- The encryptions that are counted: how many they are, that none is missing from a gate's list, and that nothing is asked twice. Assumes nothing.
 use Prim.Native.Nat.{ℕ, _+_, _*_, _≤_}
 use native.Mathlib.Nat.{add-mul}
 use native.Mathlib.Omega.{arith}
 use mathlib.Core.Path.{_≡_, refl, sym, ap, ap₂, _∙_}
+use mathlib.Core.Logic.{⊎-elim}
 use mathlib.Core.Bool.{Bool, true, false, cond}
-use mathlib.Core.List.{List, [], _∷_, _++_, List·Memᴰ, List·Memᴰ·head, List·Memᴰ·tail}
+use mathlib.Core.List.{List, [], _∷_, _++_, map, List·Memᴰ, List·Memᴰ·head, List·Memᴰ·tail, List·Memᴰ·cases-cons, List·Memᴰ·not-nil}
 use lib.Dec.{eqb}
 use lib.Bits.{differ}
 use lib.ListN.{length}
 use Rattle.model.specs.declared.Gate.{Gate}
 use Rattle.model.specs.declared.Wanted.{Wanted}
 use Rattle.model.specs.Circuit.{Kind, charged, free, refused, kindOf, charge, charges, circuitOf, outputs, wire, wires}
-use Rattle.model.specs.Aes.{Block, _⊕_, block}
+use Rattle.model.specs.Aes.{Block, _⊕_, block, aes, fixedKey, π}
 use Rattle.model.specs.Tokens.{Garbling, colour, garblingOf, inputZeros}
 use Rattle.model.specs.Scheme.{Site, Scheme}
-use Rattle.model.specs.Gax.{sealed, rowAt, openRow, gax}
+use Rattle.model.specs.Gax.{keyBlock, dualKey, sealed, rowAt, openRow, gax}
 use Rattle.model.specs.Gaxr.{reducedZero, gaxr}
+use Rattle.model.specs.Hashes.{Call, answered, hashCallOf, hashOf}
 use Rattle.model.specs.HalfGates.{halfA, halfB, rowG, rowE, joined, halfZero, half}
 use Rattle.model.specs.Garbling.{schemeOf, own, siteOf, zeroStep}
 use Rattle.model.specs.Material.{materialLength}
 use Rattle.model.specs.Evaluation.{openStep, past, openGates}
-use Rattle.model.specs.Calls.{Call, sealing, hashing, sealingAt, sealings, hashings, garbleAsks, sealingHeld, hashingsHeld, evaluateAsks, garbleCallsAt, garbleCalls, evaluateCallsAt, evaluateCalls}
+use Rattle.model.specs.Calls.{Ask, sealing, hashing, callFor, sealingAt, sealings, hashings, garbleAsks, garbledCalls, sealingHeld, hashingsHeld, evaluateAsks, openedCalls, garbleCallsAt, garbleCalls, evaluateCallsAt, evaluateCalls}
 use Rattle.model.specs.Operations.{made, garbleMade}
 use Rattle.model.proofs.Bits.{Bit, b0, b1}
 use Rattle.model.proofs.Tokens.{Offset, colour-bit, colour-⊕}
 
--- ---- how many: four at a charged gate to garble; one, one and two to evaluate
+-- ---- how many: four at a charged gate to garble; one, one, two and two to evaluate
 
-pub garble-asks-four : (k : ℕ) (s : Site) → length (garbleAsks k s) ≡ 4
-unfolding garbleAsks sealings hashings
-garble-asks-four k s = go (eqb k 1) (eqb k 2)
+pub garbled-four : (k : ℕ) (s : Site) → length (garbledCalls k s) ≡ 4
+unfolding garbledCalls garbleAsks sealings hashings
+garbled-four k s = go (eqb k 1) (eqb k 2)
   where
-    go : (a b : Bool) → length (cond a (sealings s) (cond b (sealings s) (hashings s))) ≡ 4
+    go : (a b : Bool) → length (map (callFor k) (cond a (sealings s) (cond b (sealings s) (hashings s)))) ≡ 4
     go true b = refl
     go false true = refl
     go false false = refl
@@ -49,21 +51,21 @@ asked-few k = go (eqb k 1) (eqb k 2)
     go false true = omega arith
     go false false = omega arith
 
-pub evaluate-asks-held : (k g : ℕ) (A B : Block) → length (evaluateAsks k g A B) ≡ askedHeld k
-unfolding evaluateAsks askedHeld sealingHeld hashingsHeld
-evaluate-asks-held k g A B = go (eqb k 1) (eqb k 2)
+pub opened-held : (k g : ℕ) (A B : Block) → length (openedCalls k g A B) ≡ askedHeld k
+unfolding openedCalls evaluateAsks askedHeld sealingHeld hashingsHeld
+opened-held k g A B = go (eqb k 1) (eqb k 2)
   where
-    go : (a b : Bool) → length (cond a (sealingHeld g A B) (cond b (sealingHeld g A B) (hashingsHeld g A B))) ≡ cond a 1 (cond b 1 2)
+    go : (a b : Bool) → length (map (callFor k) (cond a (sealingHeld g A B) (cond b (sealingHeld g A B) (hashingsHeld g A B)))) ≡ cond a 1 (cond b 1 2)
     go true b = refl
     go false true = refl
     go false false = refl
 
--- ---- and summed over the gates: "4p", "p in schemes 1 and 2, 2p in scheme 3"
+-- ---- and summed over the gates: "4p", "p in schemes 1 and 2, 2p in scheme 3"; and in scheme 4
 
 module _ (γ : Garbling) where
   pub garble-calls-at : (k : Kind) (s : Site) → garbleCallsAt γ k s ≡ 4 * charge k
   unfolding garbleCallsAt
-  garble-calls-at (charged u v x) s = garble-asks-four (γ .scheme) s
+  garble-calls-at (charged u v x) s = garbled-four (γ .scheme) s
   garble-calls-at (free p q c) s = refl
   garble-calls-at refused s = refl
 
@@ -81,7 +83,7 @@ garble-made-4p c seed want = rw (garble-calls-all (garblingOf c seed want) (circ
 module _ (k : ℕ) where
   pub evaluate-calls-at : (kind : Kind) (g : ℕ) (A B : Block) → evaluateCallsAt k kind g A B ≡ charge kind * askedHeld k
   unfolding evaluateCallsAt
-  evaluate-calls-at (charged u v x) g A B = evaluate-asks-held k g A B ∙ omega arith
+  evaluate-calls-at (charged u v x) g A B = opened-held k g A B ∙ omega arith
   evaluate-calls-at (free p q c) g A B = omega arith
   evaluate-calls-at refused g A B = omega arith
 
@@ -104,6 +106,10 @@ pub evaluate-calls-2p : (gs : List Gate) (bs : List ℕ) (ts : List Block) → e
 unfolding askedHeld
 evaluate-calls-2p gs bs ts = evaluate-calls-all 3 gs bs ts ∙ omega arith
 
+pub evaluate-calls-2p-rekeyed : (gs : List Gate) (bs : List ℕ) (ts : List Block) → evaluateCalls 4 gs bs ts ≡ 2 * charges gs
+unfolding askedHeld
+evaluate-calls-2p-rekeyed gs bs ts = evaluate-calls-all 4 gs bs ts ∙ omega arith
+
 -- ---- one gate more, at the end
 
 pub garble-calls-snoc : (γ : Garbling) (gs : List Gate) (g : Gate) (xs : List Block)
@@ -121,17 +127,17 @@ evaluate-calls-snoc k [] g bs ts = omega arith
 evaluate-calls-snoc k (x ∷ gs) g bs ts =
     omega (arith, evaluate-calls-snoc k gs g (past (schemeOf k) (kindOf (x .code)) bs) (ts ++ (openStep (schemeOf k) bs ts x ∷ [])))
 
--- ---- uses-only: no call is missing from the lists. Two schemes that agree on the calls listed have the same rows, zero token and opened token.
+-- ---- uses-only: nothing is missing from the lists. Two schemes that agree on what is listed have the same rows, zero token and opened token.
 
-pub record UsesOnly (S S′ : Scheme) (Agree : List Call → Type 0) (garbling : Site → List Call) (opening : ℕ → Block → Block → List Call) : Type 0 where
+pub record UsesOnly {L : Type 0} (S S′ : Scheme) (Agree : List L → Type 0) (garbling : Site → List L) (opening : ℕ → Block → Block → List L) : Type 0 where
   pub same-rows : (s : Site) → Agree (garbling s) → S .rows s ≡ S′ .rows s
   pub same-zero : (s : Site) → Agree (garbling s) → S .zeroToken s ≡ S′ .zeroToken s
   pub same-opened : (g : ℕ) (rows : List Block) (A B : Block) → Agree (opening g A B) → S .opened g rows A B ≡ S′ .opened g rows A B
 
 -- schemes 1 and 2, over two ciphers
 module _ (E E′ : Block → Block → ℕ → Block → Block) where
-  -- they agree on the calls listed
-  abbrev pub CiphersAgree : List Call → Type 0
+  -- they agree on what is listed
+  abbrev pub CiphersAgree : List Ask → Type 0
   CiphersAgree l = (A B : Block) (T : ℕ) → List·Memᴰ (sealing A B T) l → (Z : Block) → E A B T Z ≡ E′ A B T Z
 
   -- at a site
@@ -187,10 +193,10 @@ module _ (E E′ : Block → Block → ℕ → Block → Block) where
     same-opened = λ g rows A B agree. unfold gaxr in (same-row g _ A B agree);
   }
 
--- scheme 3, over two hashes
+-- schemes 3 and 4, over two hashes
 module _ (H H′ : Block → ℕ → Block) where
-  -- they agree on the calls listed
-  abbrev pub HashesAgree : List Call → Type 0
+  -- they agree on what is listed
+  abbrev pub HashesAgree : List Ask → Type 0
   HashesAgree l = (x : Block) (i : ℕ) → List·Memᴰ (hashing x i) l → H x i ≡ H′ x i
 
   module _ (s : Site) (agree : HashesAgree (hashings s)) where
@@ -240,30 +246,93 @@ module _ (H H′ : Block → ℕ → Block) where
     same-opened = λ g rows A B agree. unfold half in (same-joined g _ _ A B agree);
   }
 
--- ---- needed: no two entries of a list are equal, so that none is listed twice
+-- ---- and no encryption: every scheme is that of its scheme byte over a block cipher P, AES for those of 01 and 02, and two block ciphers that agree
+-- on the encryptions listed have the same
 
-abbrev pub NotAmong : Call → List Call → Type 0
+abbrev pub BlockCipher : Type 0
+BlockCipher = Block → Block → Block
+
+module _ (P : BlockCipher) where
+  -- E and H, over P
+  abbrev pub dualKeyOver : Block → Block → ℕ → Block → Block
+  dualKeyOver A B T Z = P fixedKey (keyBlock A B T) ⊕ keyBlock A B T ⊕ Z
+
+  abbrev pub hashOver : ℕ → Block → ℕ → Block
+  hashOver k x i = P (hashCallOf k x i .key) (hashCallOf k x i .input) ⊕ hashCallOf k x i .input
+
+  unfoldable pub schemeOver : ℕ → Scheme
+  schemeOver k = cond (eqb k 1) (gax dualKeyOver) (cond (eqb k 2) (gaxr dualKeyOver) (half (hashOver k)))
+
+-- those of 01 and 02
+pub over-aes : (k : ℕ) → schemeOver aes k ≡ schemeOf k
+unfolding schemeOver schemeOf dualKey π hashOf answered
+over-aes k = refl
+
+mem-map : {A B : Type 0} (f : A → B) {x : A} {l : List A} → List·Memᴰ x l → List·Memᴰ (f x) (map f l)
+mem-map f {l = []} m = absurd (List·Memᴰ·not-nil m)
+mem-map f {l = y ∷ l} m = ⊎-elim (λ e. List·Memᴰ·head (ap f e)) (λ n. List·Memᴰ·tail (mem-map f n)) (List·Memᴰ·cases-cons m)
+
+module _ (P P′ : BlockCipher) where
+  -- they agree on the encryptions listed
+  abbrev pub EncryptionsAgree : List Call → Type 0
+  EncryptionsAgree l = (c : Call) → List·Memᴰ c l → P (c .key) (c .input) ≡ P′ (c .key) (c .input)
+
+  module _ (k : ℕ) (l : List Ask) (agree : EncryptionsAgree (map (callFor k) l)) where
+    ciphers-agree : CiphersAgree (dualKeyOver P) (dualKeyOver P′) l
+    unfolding callFor
+    ciphers-agree A B T m Z = rw (agree _ (mem-map (callFor k) m))
+
+    hashes-agree : HashesAgree (hashOver P k) (hashOver P′ k) l
+    unfolding callFor
+    hashes-agree x i m = rw (agree _ (mem-map (callFor k) m))
+
+  -- what uses only the asks listed uses only their encryptions
+  by-encryptions : (k : ℕ) {S S′ : Scheme} {Agree : List Ask → Type 0} {garbling : Site → List Ask} {opening : ℕ → Block → Block → List Ask}
+      → ((l : List Ask) → EncryptionsAgree (map (callFor k) l) → Agree l) → UsesOnly S S′ Agree garbling opening
+      → UsesOnly S S′ EncryptionsAgree (λ s. map (callFor k) (garbling s)) (λ g A B. map (callFor k) (opening g A B))
+  by-encryptions k f u = record {
+    same-rows = λ s agree. u .same-rows s (f _ agree);
+    same-zero = λ s agree. u .same-zero s (f _ agree);
+    same-opened = λ g rows A B agree. u .same-opened g rows A B (f _ agree);
+  }
+
+  pub scheme-uses-only : (k : ℕ) → UsesOnly (schemeOver P k) (schemeOver P′ k) EncryptionsAgree (garbledCalls k) (openedCalls k)
+  unfolding schemeOver garbledCalls openedCalls garbleAsks evaluateAsks
+  scheme-uses-only k = go (eqb k 1) (eqb k 2)
+    where
+      over : BlockCipher → Bool → Bool → Scheme
+      over Q a b = cond a (gax (dualKeyOver Q)) (cond b (gaxr (dualKeyOver Q)) (half (hashOver Q k)))
+
+      go : (a b : Bool) → UsesOnly (over P a b) (over P′ a b) EncryptionsAgree (λ s. map (callFor k) (cond a (sealings s) (cond b (sealings s) (hashings s))))
+          (λ g A B. map (callFor k) (cond a (sealingHeld g A B) (cond b (sealingHeld g A B) (hashingsHeld g A B))))
+      go true b = by-encryptions k (ciphers-agree k) (gax-uses-only (dualKeyOver P) (dualKeyOver P′))
+      go false true = by-encryptions k (ciphers-agree k) (gaxr-uses-only (dualKeyOver P) (dualKeyOver P′))
+      go false false = by-encryptions k (hashes-agree k) (half-uses-only (hashOver P k) (hashOver P′ k))
+
+-- ---- needed: no two entries of a list are equal, so that nothing is asked twice
+
+abbrev pub NotAmong : Ask → List Ask → Type 0
 NotAmong x [] = Unit {0}
 NotAmong x (y ∷ l) = (x ≡ y → ⊥) × NotAmong x l
 
-abbrev pub Distinct : List Call → Type 0
+abbrev pub Distinct : List Ask → Type 0
 Distinct [] = Unit {0}
 Distinct (x ∷ l) = NotAmong x l × Distinct l
 
 -- by their tweaks
-abbrev pub tweakOf : Call → ℕ
+abbrev pub tweakOf : Ask → ℕ
 tweakOf (sealing A B T) = T
 tweakOf (hashing x i) = i
 
 -- or by the colour of what is hashed
-abbrev pub colourOf : Call → ℕ
+abbrev pub colourOf : Ask → ℕ
 colourOf (sealing A B T) = 0
 colourOf (hashing x i) = colour x
 
-by-tweak : (x y : Call) → (tweakOf x ≡ tweakOf y → ⊥) → x ≡ y → ⊥
+by-tweak : (x y : Ask) → (tweakOf x ≡ tweakOf y → ⊥) → x ≡ y → ⊥
 by-tweak x y h e = h (ap tweakOf e)
 
-by-colour : (x y : Call) → (colourOf x ≡ colourOf y → ⊥) → x ≡ y → ⊥
+by-colour : (x y : Ask) → (colourOf x ≡ colourOf y → ⊥) → x ≡ y → ⊥
 by-colour x y h e = h (ap colourOf e)
 
 pub sealings-needed : (s : Site) → Distinct (sealings s)

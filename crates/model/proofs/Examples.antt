@@ -2,14 +2,15 @@
 use mathlib.Core.Path.{refl}
 use Rattle.model.specs.Bytes.{be16, number, bytesOf}
 use Rattle.model.specs.Circuit.{value, kinds, kindOf, charges, markAt, inputs, outputs, gates, gateAt, lastWires, circuitOf, sizesHold, operandsHold, wires, gateValue, plainValues}
-use Rattle.model.specs.Aes.{_⊕_, block, times, xtime, mulBits, gmul, squares, inverse, bit, affineBit, affineBits, sBox, double, quadruple}
+use Rattle.model.specs.Aes.{_⊕_, block, fixedKey, times, xtime, mulBits, gmul, squares, inverse, bit, affineBit, affineBits, sBox, double, quadruple}
 use Rattle.model.specs.Tokens.{runBlock}
-use Rattle.model.specs.Refusals.{refuse, _then_, firstOf, headVerdict, gateVerdict, recordVerdict, circuitVerdict}
+use Rattle.model.specs.Hashes.{hashBlock, hashCall, sigma, rekeyedCall}
+use Rattle.model.specs.Refusals.{refuse, _then_, firstOf, headVerdict, gateVerdict, recordVerdict, circuitVerdict, schemeVerdict}
 use Rattle.model.specs.Operations.{sizesOf}
 use Rattle.model.specs.Examples.{Examples}
 
 pub examples : Examples
-unfolding be16 number bytesOf value kinds kindOf charges markAt inputs outputs gates gateAt lastWires circuitOf sizesHold operandsHold wires gateValue plainValues _⊕_ block times xtime mulBits gmul squares inverse bit affineBit affineBits sBox double quadruple runBlock refuse _then_ firstOf headVerdict gateVerdict recordVerdict circuitVerdict sizesOf
+unfolding be16 number bytesOf value kinds kindOf charges markAt inputs outputs gates gateAt lastWires circuitOf sizesHold operandsHold wires gateValue plainValues _⊕_ block fixedKey times xtime mulBits gmul squares inverse bit affineBit affineBits sBox double quadruple runBlock hashBlock hashCall sigma rekeyedCall refuse _then_ firstOf headVerdict gateVerdict recordVerdict circuitVerdict schemeVerdict sizesOf
 examples = record {
   P1 = refl;
   P2 = refl;
@@ -41,4 +42,9 @@ examples = record {
   first-run = refl;
   second-run = refl;
   long-run = refl;
+  halves = refl;
+  under-tweak = refl;
+  under-fixed = refl;
+  fourth-scheme = refl;
+  fifth-scheme = refl;
 }

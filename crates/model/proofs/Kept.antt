@@ -6,23 +6,24 @@ use native.Mathlib.Omega.{arith}
 use mathlib.Core.Path.{_≡_, refl, sym, ap, _∙_}
 use mathlib.Core.Bool.{Bool, true, false, cond, _||_}
 use mathlib.Core.List.{List, [], _∷_, _++_}
-use borrow.Author.Tests.{le-leb, eqb-true}
+use borrow.Author.Tests.{le-leb, lt-leb, eqb-true, ne-eqb}
 use lib.Dec.{eqb, leb}
 use lib.ListN.{length, length-append, getD, take, drop}
 use Rattle.model.specs.declared.Gate.{Gate}
 use Rattle.model.specs.Bytes.{from, tabulate, bytesOf}
 use Rattle.model.specs.Circuit.{Circuit, Kind, charged, free, refused, kinds, kindOf, value, charges, codeAt, circuitOf, inputs, gates, gateAt, gateWire, wire, wires, gateValue, plainValues}
-use Rattle.model.specs.Aes.{Block, _⊕_, block, times}
+use Rattle.model.specs.Aes.{Block, _⊕_, block, times, π}
 use Rattle.model.specs.Tokens.{Garbling, coloured, runBlock, seedBlock, offset, inputZeros, oneToken, freeZero, freeToken}
 use Rattle.model.specs.Scheme.{Site, Scheme, recordLength}
 use Rattle.model.specs.Gax.{dualKey, gax}
 use Rattle.model.specs.Gaxr.{gaxr}
-use Rattle.model.specs.HalfGates.{hash, halfA, halfB, rowG, rowE, halfZero, half}
+use Rattle.model.specs.Hashes.{answered, hashBlock, hashCall, hashCallOf, hashOf}
+use Rattle.model.specs.HalfGates.{halfA, halfB, rowG, rowE, halfZero, half}
 use Rattle.model.specs.Garbling.{schemeOf, siteOf, zeroAt, zeroStep, zeroTokens, inputOnes}
 use Rattle.model.specs.Material.{recordOf, records, lastRecord, material}
 use Rattle.model.specs.Evaluation.{openAt, openStep, past, openGates, evaluate}
-use Rattle.model.specs.Refusals.{fine, isRefused, _then_, headVerdict, gateVerdict, recordVerdict, circuitVerdict, circuitSizes, rowStart, rowVerdict, materialVerdict}
-use Rattle.model.specs.Kept.{LeftRefused, ZeroPassedOn, TokenPassedOn, PassedOn, kinds01, kind01, kindValue, chargesBy, gateValueBy, gateVerdictBy, recordVerdictBy, circuitVerdictBy, rowVerdictBy, materialVerdictBy, offsetBy, inputZerosBy, inputOnesBy, siteBy, halfABy, halfBBy, rowGBy, rowEBy, halfBy, schemeBy, zeroAtBy, zeroStepBy, zeroTokensBy, recordOfBy, recordsBy, lastRecordBy, materialBy, openStepBy, openGatesBy, evaluateBy, SameBytes, seedBlock01, RunZero}
+use Rattle.model.specs.Refusals.{fine, isRefused, _then_, headVerdict, gateVerdict, recordVerdict, circuitVerdict, circuitSizes, schemeVerdict, rowStart, rowVerdict, materialVerdict}
+use Rattle.model.specs.Kept.{LeftRefused, ZeroPassedOn, TokenPassedOn, PassedOn, kinds01, kind01, kindValue, chargesBy, gateValueBy, gateVerdictBy, recordVerdictBy, circuitVerdictBy, rowVerdictBy, materialVerdictBy, offsetBy, inputZerosBy, inputOnesBy, siteBy, halfABy, halfBBy, rowGBy, rowEBy, halfBy, schemeBy, zeroAtBy, zeroStepBy, zeroTokensBy, recordOfBy, recordsBy, lastRecordBy, materialBy, openStepBy, openGatesBy, evaluateBy, SameBytes, seedBlock01, RunZero, hash01, scheme01, schemeVerdict01, OldSchemes}
 use Rattle.model.proofs.Bits.{Bit, b0, b1, bit-of, bit-small}
 use Rattle.model.proofs.Codes.{value-bit, past-table, in-table}
 use Rattle.model.proofs.Number.{leading-zeros}
@@ -202,12 +203,12 @@ values-same (g ∷ gs) vs h b =
 
 -- ---- zero tokens and records
 
--- what is the same in scheme 3 is the same in all
-by-scheme : (K : ℕ → Kind) {A : Type 0} (f : Scheme → A) → f (halfBy K) ≡ f (half hash) → (k : ℕ) → f (schemeBy K k) ≡ f (schemeOf k)
+-- what is the same in half-gates, over the scheme's hash, is the same in all schemes
+by-scheme : (K : ℕ → Kind) {A : Type 0} (f : Scheme → A) (k : ℕ) → f (halfBy K (hashOf k)) ≡ f (half (hashOf k)) → f (schemeBy K k) ≡ f (schemeOf k)
 unfolding schemeBy schemeOf
-by-scheme K f e k = go (eqb k 1) (eqb k 2)
+by-scheme K f k e = go (eqb k 1) (eqb k 2)
   where
-    go : (x y : Bool) → f (cond x (gax dualKey) (cond y (gaxr dualKey) (halfBy K))) ≡ f (cond x (gax dualKey) (cond y (gaxr dualKey) (half hash)))
+    go : (x y : Bool) → f (cond x (gax dualKey) (cond y (gaxr dualKey) (halfBy K (hashOf k)))) ≡ f (cond x (gax dualKey) (cond y (gaxr dualKey) (half (hashOf k))))
     go true y = refl
     go false true = refl
     go false false = e
@@ -222,31 +223,32 @@ module _ (K : ℕ → Kind) (s : Site) (same : K (s .code) ≡ kindOf (s .code))
   unfolding halfBBy halfB
   B-same = rw same
 
-  G-same : rowGBy K s ≡ rowG hash s
-  unfolding rowGBy rowG
-  G-same = rw (A-same, B-same)
+  module _ (H : Block → ℕ → Block) where
+    G-same : rowGBy K H s ≡ rowG H s
+    unfolding rowGBy rowG
+    G-same = rw (A-same, B-same)
 
-  E-same : rowEBy K s ≡ rowE hash s
-  unfolding rowEBy rowE
-  E-same = rw (A-same, B-same)
+    E-same : rowEBy K H s ≡ rowE H s
+    unfolding rowEBy rowE
+    E-same = rw (A-same, B-same)
 
-  half-zero-same : halfBy K .zeroToken s ≡ half hash .zeroToken s
-  unfolding halfBy half halfZero
-  half-zero-same = rw (A-same, B-same, G-same, E-same, same)
+    half-zero-same : halfBy K H .zeroToken s ≡ half H .zeroToken s
+    unfolding halfBy half halfZero
+    half-zero-same = rw (A-same, B-same, G-same, E-same, same)
 
-  half-rows-same : halfBy K .rows s ≡ half hash .rows s
-  unfolding halfBy half
-  half-rows-same = rw (G-same, E-same)
+    half-rows-same : halfBy K H .rows s ≡ half H .rows s
+    unfolding halfBy half
+    half-rows-same = rw (G-same, E-same)
 
   zero-at-same : (γ : Garbling) (k : Kind) → zeroAtBy K γ k s ≡ zeroAt γ k s
   unfolding zeroAtBy zeroAt
-  zero-at-same γ (charged u v x) = by-scheme K (λ S. S .zeroToken s) half-zero-same (γ .scheme)
+  zero-at-same γ (charged u v x) = by-scheme K (λ S. S .zeroToken s) (γ .scheme) (half-zero-same (hashOf (γ .scheme)))
   zero-at-same γ (free p q c) = refl
   zero-at-same γ refused = refl
 
   record-of-same : (γ : Garbling) (k : Kind) → recordOfBy K γ k s ≡ recordOf γ k s
   unfolding recordOfBy recordOf
-  record-of-same γ (charged u v x) = rw (by-scheme K (λ S. S .rows s) half-rows-same (γ .scheme))
+  record-of-same γ (charged u v x) = rw (by-scheme K (λ S. S .rows s) (γ .scheme) (half-rows-same (hashOf (γ .scheme))))
   record-of-same γ (free p q c) = refl
   record-of-same γ refused = refl
 
@@ -329,23 +331,23 @@ unfolding openGates openGatesBy openStep openStepBy
 opened-same S [] bs ts h = refl
 opened-same S (g ∷ gs) bs ts h = rw (same-kind (g .code) (h .0)) (opened-same S gs _ _ (h .1))
 
--- evaluation in scheme 3 does not ask for α, β and γ
-open-half : (k : Kind) (g : ℕ) (bs : List ℕ) (A B : Block) → openAt (halfBy kind01) k g bs A B ≡ openAt (half hash) k g bs A B
+-- evaluation in half-gates does not ask for α, β and γ
+open-half : (H : Block → ℕ → Block) (k : Kind) (g : ℕ) (bs : List ℕ) (A B : Block) → openAt (halfBy kind01 H) k g bs A B ≡ openAt (half H) k g bs A B
 unfolding openAt halfBy half
-open-half (charged u v x) g bs A B = refl
-open-half (free p q c) g bs A B = refl
-open-half refused g bs A B = refl
+open-half H (charged u v x) g bs A B = refl
+open-half H (free p q c) g bs A B = refl
+open-half H refused g bs A B = refl
 
-past-half : (k : Kind) (bs : List ℕ) → past (halfBy kind01) k bs ≡ past (half hash) k bs
+past-half : (H : Block → ℕ → Block) (k : Kind) (bs : List ℕ) → past (halfBy kind01 H) k bs ≡ past (half H) k bs
 unfolding past recordLength halfBy half
-past-half (charged u v x) bs = refl
-past-half (free p q c) bs = refl
-past-half refused bs = refl
+past-half H (charged u v x) bs = refl
+past-half H (free p q c) bs = refl
+past-half H refused bs = refl
 
-opened-half : (gs : List Gate) (bs : List ℕ) (ts : List Block) → openGatesBy kind01 (halfBy kind01) gs bs ts ≡ openGatesBy kind01 (half hash) gs bs ts
+opened-half : (H : Block → ℕ → Block) (gs : List Gate) (bs : List ℕ) (ts : List Block) → openGatesBy kind01 (halfBy kind01 H) gs bs ts ≡ openGatesBy kind01 (half H) gs bs ts
 unfolding openGatesBy openStepBy
-opened-half [] bs ts = refl
-opened-half (g ∷ gs) bs ts = rw (open-half, past-half) (opened-half gs _ _)
+opened-half H [] bs ts = refl
+opened-half H (g ∷ gs) bs ts = rw (open-half H, past-half H) (opened-half H gs _ _)
 
 -- ---- a circuit that 01 accepts
 
@@ -384,7 +386,7 @@ module _ (c : List ℕ) (e : circuitVerdictBy kind01 c ≡ fine) where
     rows = λ γ is-c. material-same kind01 (seedBlock γ) γ (wiresOf γ) (λ i l. refl) (omega arith) (kinds-01 γ is-c);
     refusals = λ s. refusals-same (circuitOf c) all-known s;
     tokens = λ ts s. opened-same _ (circuitOf c .gates) (drop 9 s) ts all-known
-        ∙ sym (by-scheme kind01 (λ S. openGatesBy kind01 S (circuitOf c .gates) (drop 9 s) ts) (opened-half (circuitOf c .gates) (drop 9 s) ts) (getD s 2 0));
+        ∙ sym (by-scheme kind01 (λ S. openGatesBy kind01 S (circuitOf c .gates) (drop 9 s) ts) (getD s 2 0) (opened-half (hashOf (getD s 2 0)) (circuitOf c .gates) (drop 9 s) ts));
   }
 
 -- ==== Job 4
@@ -421,3 +423,29 @@ module _ (c : List ℕ) (e : circuitVerdict c ≡ fine) (γ : Garbling) (is-c : 
 
 pub run-zero-01 : (c : List ℕ) → circuitVerdictBy kind01 c ≡ fine → (γ : Garbling) → γ .circuit ≡ circuitOf c → γ .run ≡ 0 → RunZero kind01 γ
 run-zero-01 c e γ is-c run-0 = by-rule c (same-bytes c e .accepted) γ is-c run-0 kind01 (kinds-01 c e γ is-c)
+
+-- ==== Job 7
+
+-- the hash of every scheme byte but 4 is that of 01: π is AES under the fixed key
+old-call : (k : ℕ) → (k ≡ 4 → ⊥) → hashCallOf k ≡ hashCall
+unfolding hashCallOf
+old-call k n = rw (ne-eqb k 4 n)
+
+old-hash : (k : ℕ) → (k ≡ 4 → ⊥) → hashOf k ≡ hash01
+unfolding hashOf answered hashCall hashBlock hash01 π
+old-hash k n = ap {B = Block → ℕ → Block} (λ C x i. answered (C x i)) (old-call k n)
+
+-- at most 3 and at most 4 are the same of what is not 4
+at-most : (k : ℕ) → (k ≡ 4 → ⊥) → leb k 4 ≡ leb k 3
+at-most k n = go (decLt 3 k)
+  where
+    go : Dec (3 < k) → leb k 4 ≡ leb k 3
+    go (Dec.yes h) = lt-leb k 4 (omega (arith, n)) ∙ sym (lt-leb k 3 h)
+    go (Dec.no h) = le-leb k 4 (omega arith) ∙ sym (le-leb k 3 (omega arith))
+
+pub old-schemes : OldSchemes
+unfolding schemeOf scheme01 schemeVerdict schemeVerdict01
+old-schemes = record {
+  steps = λ k n. rw (old-hash k n);
+  refused-too = λ k n. rw (at-most k n);
+}

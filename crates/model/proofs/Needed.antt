@@ -1,5 +1,5 @@
--- Every call of π that a scheme lists is needed: of each there are two ciphers, or two hashes, that agree on all calls listed but that one, and do not
--- give the same. So the lists are the shortest of which `UsesOnly` holds. Assumes nothing.
+-- Everything that a scheme lists of its cipher or its hash is needed: of each entry there are two ciphers, or two hashes, that agree on all that is
+-- listed but that one, and do not give the same. So the lists are the shortest of which `UsesOnly` holds. Assumes nothing.
 use Prim.Native.Nat.{ℕ, _+_, _*_, _-_, _≤_}
 use native.Mathlib.Omega.{arith}
 use mathlib.Core.Path.{_≡_, refl, sym, ap, _∙_}
@@ -17,7 +17,7 @@ use Rattle.model.specs.Scheme.{Site, Scheme}
 use Rattle.model.specs.Gax.{valueAt, sealed, rowAt, openRow, gax}
 use Rattle.model.specs.Gaxr.{reducedZero, gaxr}
 use Rattle.model.specs.HalfGates.{halfA, halfB, rowG, rowE, joined, half}
-use Rattle.model.specs.Calls.{Call, sealing, hashing, sealingAt, sealings, hashings, sealingHeld, hashingsHeld}
+use Rattle.model.specs.Calls.{Ask, sealing, hashing, sealingAt, sealings, hashings, sealingHeld, hashingsHeld}
 use Rattle.model.proofs.Bits.{Bit, b0, b1}
 use Rattle.model.proofs.Xor.{⊕-assoc}
 use Rattle.model.proofs.Tokens.{Offset, colour-bit, colour-⊕}
@@ -71,10 +71,10 @@ abbrev pub Cipher : Type 0
 Cipher = Block → Block → ℕ → Block → Block
 
 -- they agree on the calls listed, but for x
-abbrev pub CiphersAgreeBut : Cipher → Cipher → Call → List Call → Type 0
+abbrev pub CiphersAgreeBut : Cipher → Cipher → Ask → List Ask → Type 0
 CiphersAgreeBut E E′ x l = (A B : Block) (T : ℕ) → List·Memᴰ (sealing A B T) l → (sealing A B T ≡ x → ⊥) → (Z : Block) → E A B T Z ≡ E′ A B T Z
 
-pub record SealingNeeded (S : Cipher → Scheme) (s : Site) (x : Call) : Type 0 where
+pub record SealingNeeded (S : Cipher → Scheme) (s : Site) (x : Ask) : Type 0 where
   pub E : Cipher
   pub E′ : Cipher
   pub agree-but : CiphersAgreeBut E E′ x (sealings s)
@@ -89,7 +89,7 @@ marked t A B T Z = cond (eqb T t) (block 1) (block 0)
 
 module _ (s : Site) where
   -- what holds of the four calls holds of each that is listed
-  each-sealing : (P : Call → Type 0) → ((c d : ℕ) → Bit c → Bit d → P (sealingAt s c d)) → (x : Call) → List·Memᴰ x (sealings s) → P x
+  each-sealing : (P : Ask → Type 0) → ((c d : ℕ) → Bit c → Bit d → P (sealingAt s c d)) → (x : Ask) → List·Memᴰ x (sealings s) → P x
   unfolding sealings
   each-sealing P f x m = first (List·Memᴰ·cases-cons m)
     where
@@ -119,7 +119,7 @@ module _ (s : Site) where
       let j : d ≡ f = omega arith in
       rw (i, j)
 
-  at-tweak : (c d : ℕ) → Bit c → Bit d → (x : Call) → List·Memᴰ x (sealings s) → tweakOf x ≡ tweakAt c d → x ≡ sealingAt s c d
+  at-tweak : (c d : ℕ) → Bit c → Bit d → (x : Ask) → List·Memᴰ x (sealings s) → tweakOf x ≡ tweakAt c d → x ≡ sealingAt s c d
   at-tweak c d p q =
       each-sealing (λ x. tweakOf x ≡ tweakAt c d → x ≡ sealingAt s c d)
       (λ e f u v h. same-pair e f c d (small u) (small v) (small p) (small q) (unfold sealingAt in h))
@@ -169,24 +169,24 @@ module _ (s : Site) where
   gaxr-differs b1 b1 e f = row-differs 1 1 _ _ (ap (λ (l : List Block). getD l 2 (block 0)) e)
 
   -- each call listed is needed
-  pub gax-needs : (x : Call) → List·Memᴰ x (sealings s) → SealingNeeded gax s x
+  pub gax-needs : (x : Ask) → List·Memᴰ x (sealings s) → SealingNeeded gax s x
   gax-needs = each-sealing (SealingNeeded gax s) gax-needs-at
 
-  pub gaxr-needs : (x : Call) → List·Memᴰ x (sealings s) → SealingNeeded gaxr s x
+  pub gaxr-needs : (x : Ask) → List·Memᴰ x (sealings s) → SealingNeeded gaxr s x
   gaxr-needs =
       each-sealing (SealingNeeded gaxr s)
       (λ c d p q. record { E = blank; E′ = marked (tweakAt c d); agree-but = agree c d p q; not-same = gaxr-differs p q })
 
--- ---- scheme 3
+-- ---- schemes 3 and 4
 
 abbrev pub Hash : Type 0
 Hash = Block → ℕ → Block
 
 -- they agree on the calls listed, but for x
-abbrev pub HashesAgreeBut : Hash → Hash → Call → List Call → Type 0
+abbrev pub HashesAgreeBut : Hash → Hash → Ask → List Ask → Type 0
 HashesAgreeBut H H′ x l = (y : Block) (i : ℕ) → List·Memᴰ (hashing y i) l → (hashing y i ≡ x → ⊥) → H y i ≡ H′ y i
 
-pub record HashingNeeded (S : Hash → Scheme) (s : Site) (x : Call) : Type 0 where
+pub record HashingNeeded (S : Hash → Scheme) (s : Site) (x : Ask) : Type 0 where
   pub H : Hash
   pub H′ : Hash
   pub agree-but : HashesAgreeBut H H′ x (hashings s)
@@ -214,8 +214,8 @@ module _ (s : Site) (o : Offset (s .R)) where
   k = 2 * s .g + 1
 
   -- what holds of the four calls holds of each that is listed
-  each-hashing : (P : Call → Type 0) → P (hashing (halfA s) j) → P (hashing (halfA s ⊕ s .R) j) → P (hashing (halfB s) k) → P (hashing (halfB s ⊕ s .R) k)
-      → (x : Call) → List·Memᴰ x (hashings s) → P x
+  each-hashing : (P : Ask → Type 0) → P (hashing (halfA s) j) → P (hashing (halfA s ⊕ s .R) j) → P (hashing (halfB s) k) → P (hashing (halfB s ⊕ s .R) k)
+      → (x : Ask) → List·Memᴰ x (hashings s) → P x
   unfolding hashings
   each-hashing P a b c d x m = first (List·Memᴰ·cases-cons m)
     where
@@ -236,7 +236,7 @@ module _ (s : Site) (o : Offset (s .R)) where
       first (inr n) = second (List·Memᴰ·cases-cons n)
 
   -- a tweak and a colour have one call
-  abbrev OneCall : Call → Call → Type 0
+  abbrev OneCall : Ask → Ask → Type 0
   OneCall x y = tweakOf y ≡ tweakOf x → colourOf y ≡ colourOf x → y ≡ x
 
   unlike-a : colour (halfA s) ≡ colour (halfA s ⊕ s .R) → ⊥
@@ -245,15 +245,15 @@ module _ (s : Site) (o : Offset (s .R)) where
   unlike-b : colour (halfB s) ≡ colour (halfB s ⊕ s .R) → ⊥
   unlike-b = other-colour (halfB s) o
 
-  one-call : (x : Call) → List·Memᴰ x (hashings s) → (y : Call) → List·Memᴰ y (hashings s) → OneCall x y
+  one-call : (x : Ask) → List·Memᴰ x (hashings s) → (y : Ask) → List·Memᴰ y (hashings s) → OneCall x y
   one-call =
-      each-hashing (λ x. (y : Call) → List·Memᴰ y (hashings s) → OneCall x y)
+      each-hashing (λ x. (y : Ask) → List·Memᴰ y (hashings s) → OneCall x y)
       (each-hashing (OneCall (hashing (halfA s) j)) (λ t c. refl) (λ t c. absurd (unlike-a (sym c))) (λ t c. absurd (omega arith)) (λ t c. absurd (omega arith)))
       (each-hashing (OneCall (hashing (halfA s ⊕ s .R) j)) (λ t c. absurd (unlike-a c)) (λ t c. refl) (λ t c. absurd (omega arith)) (λ t c. absurd (omega arith)))
       (each-hashing (OneCall (hashing (halfB s) k)) (λ t c. absurd (omega arith)) (λ t c. absurd (omega arith)) (λ t c. refl) (λ t c. absurd (unlike-b (sym c))))
       (each-hashing (OneCall (hashing (halfB s ⊕ s .R) k)) (λ t c. absurd (omega arith)) (λ t c. absurd (omega arith)) (λ t c. absurd (unlike-b c)) (λ t c. refl))
 
-  agree-hashes : (x : Call) → List·Memᴰ x (hashings s) → HashesAgreeBut plain (spotted (tweakOf x) (colourOf x)) x (hashings s)
+  agree-hashes : (x : Ask) → List·Memᴰ x (hashings s) → HashesAgreeBut plain (spotted (tweakOf x) (colourOf x)) x (hashings s)
   agree-hashes x mine y i m n = go (eqb i (tweakOf x) && eqb (colour y) (colourOf x)) refl
     where
       go : (b : Bool) → (eqb i (tweakOf x) && eqb (colour y) (colourOf x)) ≡ b → block 0 ≡ cond b (block 1) (block 0)
@@ -263,7 +263,7 @@ module _ (s : Site) (o : Offset (s .R)) where
       go false e = refl
 
   -- each changes its row
-  abbrev Differs : Call → Type 0
+  abbrev Differs : Ask → Type 0
   Differs x = half plain .rows s ≡ half (spotted (tweakOf x) (colourOf x)) .rows s → ⊥
 
   g-rows : (H H′ : Hash) → half H .rows s ≡ half H′ .rows s → rowG H s ≡ rowG H′ s
@@ -299,7 +299,7 @@ module _ (s : Site) (o : Offset (s .R)) where
       second-flipped _ _ (rw (spotted-there (halfB s ⊕ s .R) k, spotted-not k (colour (halfB s ⊕ s .R)) (halfB s) unlike-b) at r)
 
   -- each call listed is needed
-  pub half-needs : (x : Call) → List·Memᴰ x (hashings s) → HashingNeeded half s x
+  pub half-needs : (x : Ask) → List·Memᴰ x (hashings s) → HashingNeeded half s x
   half-needs x m = record {
     H = plain;
     H′ = spotted (tweakOf x) (colourOf x);
@@ -309,13 +309,13 @@ module _ (s : Site) (o : Offset (s .R)) where
 
 -- ---- evaluating, with A and B held
 
-pub record SealingHeldNeeded (S : Cipher → Scheme) (g : ℕ) (A B : Block) (x : Call) : Type 0 where
+pub record SealingHeldNeeded (S : Cipher → Scheme) (g : ℕ) (A B : Block) (x : Ask) : Type 0 where
   pub E : Cipher
   pub E′ : Cipher
   pub agree-but : CiphersAgreeBut E E′ x (sealingHeld g A B)
   pub not-same : (rows : List Block) → S E .opened g rows A B ≡ S E′ .opened g rows A B → ⊥
 
-pub record HashingHeldNeeded (S : Hash → Scheme) (g : ℕ) (A B : Block) (x : Call) : Type 0 where
+pub record HashingHeldNeeded (S : Hash → Scheme) (g : ℕ) (A B : Block) (x : Ask) : Type 0 where
   pub H : Hash
   pub H′ : Hash
   pub agree-but : HashesAgreeBut H H′ x (hashingsHeld g A B)
@@ -326,7 +326,7 @@ other A B T Z = block 1
 
 module _ (g : ℕ) (A B : Block) where
   -- there is one call of a cipher
-  only-sealing : (x y : Call) → List·Memᴰ x (sealingHeld g A B) → List·Memᴰ y (sealingHeld g A B) → y ≡ x
+  only-sealing : (x y : Ask) → List·Memᴰ x (sealingHeld g A B) → List·Memᴰ y (sealingHeld g A B) → y ≡ x
   unfolding sealingHeld
   only-sealing x y m n = List·Memᴰ·eq-of-singleton n ∙ sym (List·Memᴰ·eq-of-singleton m)
 
@@ -334,7 +334,7 @@ module _ (g : ℕ) (A B : Block) where
   unfolding openRow
   row-opened-differs rows e = not-zero e
 
-  pub gax-held-needs : (x : Call) → List·Memᴰ x (sealingHeld g A B) → SealingHeldNeeded gax g A B x
+  pub gax-held-needs : (x : Ask) → List·Memᴰ x (sealingHeld g A B) → SealingHeldNeeded gax g A B x
   unfolding gax
   gax-held-needs x m = record {
     E = blank;
@@ -343,7 +343,7 @@ module _ (g : ℕ) (A B : Block) where
     not-same = row-opened-differs;
   }
 
-  pub gaxr-held-needs : (x : Call) → List·Memᴰ x (sealingHeld g A B) → SealingHeldNeeded gaxr g A B x
+  pub gaxr-held-needs : (x : Ask) → List·Memᴰ x (sealingHeld g A B) → SealingHeldNeeded gaxr g A B x
   unfolding gaxr
   gaxr-held-needs x m = record {
     E = blank;
@@ -353,7 +353,7 @@ module _ (g : ℕ) (A B : Block) where
   }
 
   -- two of a hash, of a tweak each
-  each-held : (P : Call → Type 0) → P (hashing A (2 * g)) → P (hashing B (2 * g + 1)) → (x : Call) → List·Memᴰ x (hashingsHeld g A B) → P x
+  each-held : (P : Ask → Type 0) → P (hashing A (2 * g)) → P (hashing B (2 * g + 1)) → (x : Ask) → List·Memᴰ x (hashingsHeld g A B) → P x
   unfolding hashingsHeld
   each-held P a b x m = first (List·Memᴰ·cases-cons m)
     where
@@ -365,23 +365,23 @@ module _ (g : ℕ) (A B : Block) where
       first (inl e) = rw e a
       first (inr n) = second (List·Memᴰ·cases-cons n)
 
-  one-held : (x : Call) → List·Memᴰ x (hashingsHeld g A B) → (y : Call) → List·Memᴰ y (hashingsHeld g A B) → tweakOf y ≡ tweakOf x → y ≡ x
+  one-held : (x : Ask) → List·Memᴰ x (hashingsHeld g A B) → (y : Ask) → List·Memᴰ y (hashingsHeld g A B) → tweakOf y ≡ tweakOf x → y ≡ x
   one-held =
-      each-held (λ x. (y : Call) → List·Memᴰ y (hashingsHeld g A B) → tweakOf y ≡ tweakOf x → y ≡ x)
+      each-held (λ x. (y : Ask) → List·Memᴰ y (hashingsHeld g A B) → tweakOf y ≡ tweakOf x → y ≡ x)
       (each-held (λ y. tweakOf y ≡ 2 * g → y ≡ hashing A (2 * g)) (λ t. refl) (λ t. absurd (omega arith)))
       (each-held (λ y. tweakOf y ≡ 2 * g + 1 → y ≡ hashing B (2 * g + 1)) (λ t. absurd (omega arith)) (λ t. refl))
 
   abbrev tweaked : ℕ → Hash
   tweaked t x i = cond (eqb i t) (block 1) (block 0)
 
-  agree-held : (x : Call) → List·Memᴰ x (hashingsHeld g A B) → HashesAgreeBut plain (tweaked (tweakOf x)) x (hashingsHeld g A B)
+  agree-held : (x : Ask) → List·Memᴰ x (hashingsHeld g A B) → HashesAgreeBut plain (tweaked (tweakOf x)) x (hashingsHeld g A B)
   agree-held x mine y i m n = go (eqb i (tweakOf x)) refl
     where
       go : (b : Bool) → eqb i (tweakOf x) ≡ b → block 0 ≡ cond b (block 1) (block 0)
       go true e = absurd (n (one-held x mine (hashing y i) m (eqb-true i (tweakOf x) e)))
       go false e = refl
 
-  abbrev OpenedDiffers : Call → Type 0
+  abbrev OpenedDiffers : Ask → Type 0
   OpenedDiffers x = (G E : Block) → joined plain g G E A B ≡ joined (tweaked (tweakOf x)) g G E A B → ⊥
 
   opened-a : OpenedDiffers (hashing A (2 * g))
@@ -398,7 +398,7 @@ module _ (g : ℕ) (A B : Block) where
       rw (eq-eqb (2 * g + 1) (2 * g + 1) refl, ne-eqb (2 * g) (2 * g + 1) (λ h. omega arith)) at e in
       second-flipped (block 0 ⊕ u) w (⊕-assoc (block 0) u (block 0 ⊕ w) ∙ f ∙ sym (⊕-assoc (block 0) u (block 1 ⊕ w)))
 
-  pub half-held-needs : (x : Call) → List·Memᴰ x (hashingsHeld g A B) → HashingHeldNeeded half g A B x
+  pub half-held-needs : (x : Ask) → List·Memᴰ x (hashingsHeld g A B) → HashingHeldNeeded half g A B x
   unfolding half
   half-held-needs x m = record {
     H = plain;

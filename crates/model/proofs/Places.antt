@@ -14,20 +14,22 @@ use Rattle.model.specs.Circuit.{kindOf, charge, charges}
 use Rattle.model.specs.Scheme.{recordLength}
 use Rattle.model.specs.Gax.{dualKey, gax}
 use Rattle.model.specs.Gaxr.{gaxr}
-use Rattle.model.specs.HalfGates.{hash, half}
+use Rattle.model.specs.Hashes.{hashOf}
+use Rattle.model.specs.HalfGates.{half}
 use Rattle.model.specs.Garbling.{Known, schemeOf}
 use Rattle.model.specs.Material.{lastStart, materialLength}
 use Rattle.model.proofs.Lists.{tabulate-snoc}
 use Rattle.model.proofs.Circuits.{charges-snoc, charges-among}
 
--- "its r rows (r = 4, 3, 2": under scheme 1, 2 and 3
-pub rows-stored : (scheme : ℕ) → Known scheme → schemeOf scheme .stored ≡ getD (0 ∷ 4 ∷ 3 ∷ 2 ∷ []) scheme 0
+-- "its r rows (r = 4, 3, 2": under scheme 1, 2 and 3; and under scheme 4 those of scheme 3
+pub rows-stored : (scheme : ℕ) → Known scheme → schemeOf scheme .stored ≡ getD (0 ∷ 4 ∷ 3 ∷ 2 ∷ 2 ∷ []) scheme 0
 unfolding schemeOf gax gaxr half
 rows-stored zero h = absurd (omega (arith, h .low))
 rows-stored (suc zero) h = refl
 rows-stored (suc (suc zero)) h = refl
 rows-stored (suc (suc (suc zero))) h = refl
-rows-stored (suc (suc (suc (suc k)))) h = absurd (omega (arith, h .high))
+rows-stored (suc (suc (suc (suc zero)))) h = refl
+rows-stored (suc (suc (suc (suc (suc k))))) h = absurd (omega (arith, h .high))
 
 module _ (scheme : ℕ) where
   -- ---- 2 to 4 rows, by any scheme byte
@@ -35,7 +37,7 @@ module _ (scheme : ℕ) where
   unfolding schemeOf gax gaxr half
   within = go (eqb scheme 1) (eqb scheme 2)
     where
-      go : (a b : Bool) → (2 ≤ cond a (gax dualKey) (cond b (gaxr dualKey) (half hash)) .stored) × (cond a (gax dualKey) (cond b (gaxr dualKey) (half hash)) .stored ≤ 4)
+      go : (a b : Bool) → (2 ≤ cond a (gax dualKey) (cond b (gaxr dualKey) (half (hashOf scheme))) .stored) × (cond a (gax dualKey) (cond b (gaxr dualKey) (half (hashOf scheme))) .stored ≤ 4)
       go true b = (omega arith, omega arith)
       go false true = (omega arith, omega arith)
       go false false = (omega arith, omega arith)

@@ -7,7 +7,8 @@ use lib.Dec.{eqb}
 use Rattle.model.specs.Scheme.{Scheme}
 use Rattle.model.specs.Gax.{dualKey, gax}
 use Rattle.model.specs.Gaxr.{gaxr}
-use Rattle.model.specs.HalfGates.{hash, half}
+use Rattle.model.specs.Hashes.{hashOf}
+use Rattle.model.specs.HalfGates.{half}
 use Rattle.model.specs.Garbling.{schemeOf}
 use Rattle.model.proofs.Xor.{⊕-length, ⊕-zero}
 use Rattle.model.proofs.XorRules.{xors}
@@ -33,7 +34,7 @@ module _ (scheme : ℕ) where
   unfolding schemeOf
   is-gaxr e = rw e
 
-  pub is-half : (scheme ≡ 1 → ⊥) → (scheme ≡ 2 → ⊥) → schemeOf scheme ≡ half hash
+  pub is-half : (scheme ≡ 1 → ⊥) → (scheme ≡ 2 → ⊥) → schemeOf scheme ≡ half (hashOf scheme)
   unfolding schemeOf
   is-half p q = simp (ne-eqb _ _ p, ne-eqb _ _ q)
 
@@ -41,10 +42,10 @@ cond-sound : (b : Bool) (S D : Scheme) → Sound S → Sound D → Sound (cond b
 cond-sound true S D s d = s
 cond-sound false S D s d = d
 
--- one line for each scheme
+-- one line for each scheme, and one for the two of half-gates
 pub scheme-sound : (k : ℕ) → Sound (schemeOf k)
 unfolding schemeOf
 scheme-sound k =
     cond-sound (eqb k 1) _ _ (gax-sound dualKey dualKey-undoes)
     (cond-sound (eqb k 2) _ _ (gaxr-sound dualKey dualKey-undoes)
-    (half-sound hash))
+    (half-sound (hashOf k)))

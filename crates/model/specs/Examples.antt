@@ -1,5 +1,5 @@
--- Document 01, "Table of examples": those marked P, and the limits; and of document 02, job 2, a gate of one operand, and job 4, the block that is
--- enciphered under the seed. The theorem is `examples` of proofs/Examples.antt.
+-- Document 01, "Table of examples": those marked P, and the limits; and of document 02, job 2, a gate of one operand, job 4, the block that is
+-- enciphered under the seed, and job 7, what the hashes encipher. The theorem is `examples` of proofs/Examples.antt.
 use Prim.Native.Nat.{ℕ}
 use mathlib.Core.Path.{_≡_}
 use mathlib.Core.Bool.{true, false}
@@ -8,8 +8,9 @@ use lib.ListN.{take, replicate}
 use Rattle.model.specs.Circuit.{kindOf, sizesHold, circuitOf, plainValues}
 use Rattle.model.specs.Aes.{Block, block, double, quadruple, sBox}
 use Rattle.model.specs.Tokens.{runBlock}
+use Rattle.model.specs.Hashes.{hashCall, sigma, rekeyedCall}
 use Rattle.model.specs.HalfGates.{alpha, beta, gamma}
-use Rattle.model.specs.Refusals.{refused}
+use Rattle.model.specs.Refusals.{fine, refused, schemeVerdict}
 use Rattle.model.specs.Operations.{yes, no, checkAnswer}
 
 -- P11's circuit, with other operands and another code
@@ -22,6 +23,10 @@ p11 = oneGate 0x01 0x02 0x08
 -- 80 and fifteen 00
 abbrev pub highest : Block
 highest = 0x80 ∷ replicate 15 0x00
+
+-- 00 01 .. 0F, which is π's key
+abbrev pub counted : Block
+counted = 0x00 ∷ 0x01 ∷ 0x02 ∷ 0x03 ∷ 0x04 ∷ 0x05 ∷ 0x06 ∷ 0x07 ∷ 0x08 ∷ 0x09 ∷ 0x0A ∷ 0x0B ∷ 0x0C ∷ 0x0D ∷ 0x0E ∷ 0x0F ∷ []
 
 -- α, β, γ of a code
 pub record Negations (code α β γ : ℕ) : Type 0 where
@@ -64,3 +69,9 @@ pub record Examples : Type 0 where
   pub second-run : runBlock 1 0 ≡ replicate 7 0x00 ++ (0x01 ∷ replicate 8 0x00)
   pub long-run : runBlock 0x0102030405060708 0x1234
       ≡ 0x01 ∷ 0x02 ∷ 0x03 ∷ 0x04 ∷ 0x05 ∷ 0x06 ∷ 0x07 ∷ 0x08 ∷ replicate 6 0x00 ++ (0x12 ∷ 0x34 ∷ [])
+  -- 02, job 7: σ, the encryption of each hash under tweak 6, and what 14 says of 4 and 5
+  pub halves : sigma counted ≡ replicate 8 0x08 ++ (0x00 ∷ 0x01 ∷ 0x02 ∷ 0x03 ∷ 0x04 ∷ 0x05 ∷ 0x06 ∷ 0x07 ∷ [])
+  pub under-tweak : rekeyedCall highest 6 ≡ record { key = replicate 15 0x00 ++ (0x06 ∷ []); input = 0x80 ∷ replicate 7 0x00 ++ (0x80 ∷ replicate 7 0x00) }
+  pub under-fixed : hashCall highest 6 ≡ record { key = counted; input = replicate 15 0x00 ++ (0x81 ∷ []) }
+  pub fourth-scheme : schemeVerdict 4 ≡ fine
+  pub fifth-scheme : schemeVerdict 5 ≡ refused 14 5

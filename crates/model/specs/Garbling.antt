@@ -1,4 +1,4 @@
--- All wires garbled: the scheme of a scheme byte, and the zero token of every wire. Document 01, "Tokens" and "Scheme 1" to "Scheme 3".
+-- All wires garbled: the scheme of a scheme byte, and the zero token of every wire. Document 01, "Tokens" and "Scheme 1" to "Scheme 3"; 02, job 7.
 use Prim.Native.Nat.{ℕ, suc, _≤_}
 use mathlib.Core.Bool.{cond}
 use mathlib.Core.List.{List, map}
@@ -11,16 +11,17 @@ use Rattle.model.specs.Tokens.{Garbling, seedBlock, offset, inputZeros, 
 use Rattle.model.specs.Scheme.{Scheme, Site}
 use Rattle.model.specs.Gax.{dualKey, gax}
 use Rattle.model.specs.Gaxr.{gaxr}
-use Rattle.model.specs.HalfGates.{hash, half}
+use Rattle.model.specs.Hashes.{hashOf}
+use Rattle.model.specs.HalfGates.{half}
 
--- "scheme byte (1 to 3)" (01, "Material"): no other byte is asked for, since 14 refuses it
+-- "scheme byte (1 to 3)" (01, "Material"), and 4 (02, job 7): no other byte is asked for, since 14 refuses it
 pub record Known (scheme : ℕ) : Type 0 where
   pub low : 1 ≤ scheme
-  pub high : scheme ≤ 3
+  pub high : scheme ≤ 4
 
--- scheme 1, 2 or 3
+-- scheme 1, 2, 3 or 4: the last two are half-gates, each over its hash
 unfoldable pub schemeOf : ℕ → Scheme
-schemeOf k = cond (eqb k 1) (gax dualKey) (cond (eqb k 2) (gaxr dualKey) (half hash))
+schemeOf k = cond (eqb k 1) (gax dualKey) (cond (eqb k 2) (gaxr dualKey) (half (hashOf k)))
 
 -- the wire number of the gate that comes after the wires xs
 abbrev pub own : {A : Type 0} → List A → ℕ

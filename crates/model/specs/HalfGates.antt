@@ -1,18 +1,12 @@
--- Document 01, "Scheme 3, half-gates", over any tweakable hash H. The steps are those of Zahur, Rosulek and Evans (2015).
+-- Document 01, "Scheme 3, half-gates", over any tweakable hash H; "Scheme 4 has scheme 3's steps and rows" (02, job 7). The steps are those of Zahur,
+-- Rosulek and Evans (2015).
 use Prim.Native.Nat.{ℕ, _+_, _-_, _*_}
 use mathlib.Core.List.{[], _∷_}
 use lib.ListN.{getD}
 use Rattle.model.specs.Circuit.{Kind, charged, free, refused, kindOf}
-use Rattle.model.specs.Aes.{Block, _⊕_, block, times, double, π}
+use Rattle.model.specs.Aes.{Block, _⊕_, block, times}
 use Rattle.model.specs.Tokens.{colour}
 use Rattle.model.specs.Scheme.{Site, Scheme}
-
--- "H(x,i) = π(2x ⊕ i) ⊕ 2x ⊕ i" (source 002, §3)
-unfoldable pub hashBlock : Block → ℕ → Block
-hashBlock x i = double x ⊕ block i
-
-unfoldable pub hash : Block → ℕ → Block
-hash x i = π (hashBlock x i) ⊕ hashBlock x i
 
 -- "Of the four truth pairs of a charged code one has a value of its own; call it (u,v). α=1-u, β=1-v, γ=1 if that value is 0, else 0."
 abbrev pub alpha : Kind → ℕ

@@ -9,16 +9,17 @@ use lib.ListN.{length, getD, take, drop}
 use Rattle.model.specs.declared.Gate.{Gate}
 use Rattle.model.specs.Bytes.{tabulate, two}
 use Rattle.model.specs.Circuit.{Circuit, Kind, charged, free, refused, circuitOf, kindOf, charge, charges, codeAt, markAt, inputs, gates, recordAt, gateAt, operandsHold, gateWire, wire, wires, plainValues}
-use Rattle.model.specs.Aes.{Block, _⊕_, block, times, aes}
+use Rattle.model.specs.Aes.{Block, _⊕_, block, times, aes, π, double}
 use Rattle.model.specs.Tokens.{Garbling, colour, coloured, seedBlock, offset, inputZeros, freeZero}
 use Rattle.model.specs.Scheme.{Site, Scheme}
 use Rattle.model.specs.Gax.{dualKey, gax}
 use Rattle.model.specs.Gaxr.{gaxr}
-use Rattle.model.specs.HalfGates.{hash, alpha, beta, gamma, generatorTweak, evaluatorTweak, joined}
+use Rattle.model.specs.Hashes.{hashOf}
+use Rattle.model.specs.HalfGates.{alpha, beta, gamma, generatorTweak, evaluatorTweak, joined, half}
 use Rattle.model.specs.Garbling.{own, schemeOf, zeroStep, zeroTokens, inputOnes}
 use Rattle.model.specs.Material.{joinBlocks, lastStart, header, material}
 use Rattle.model.specs.Evaluation.{cut, openAt, openStep, past, openGates, evaluate}
-use Rattle.model.specs.Refusals.{Verdict, fine, refuse, _then_, firstOf, isRefused, isCharged, headVerdict, circuitVerdict, fileVerdict, rowRecordAt, lastVerdict, materialVerdict}
+use Rattle.model.specs.Refusals.{Verdict, fine, refuse, _then_, firstOf, isRefused, isCharged, headVerdict, circuitVerdict, schemeVerdict, fileVerdict, rowRecordAt, lastVerdict, materialVerdict}
 
 -- ==== Job 2, gates that use one operand
 
@@ -135,23 +136,24 @@ module _ (K : ℕ → Kind) where
   unfoldable pub halfBBy : Site → Block
   halfBBy s = s .Xb ⊕ times (beta (K (s .code))) (s .R)
 
-  unfoldable pub rowGBy : Site → Block
-  rowGBy s = hash (halfABy s) (generatorTweak (s .g)) ⊕ hash (halfABy s ⊕ s .R) (generatorTweak (s .g)) ⊕ times (colour (halfBBy s)) (s .R)
+  module _ (H : Block → ℕ → Block) where
+    unfoldable pub rowGBy : Site → Block
+    rowGBy s = H (halfABy s) (generatorTweak (s .g)) ⊕ H (halfABy s ⊕ s .R) (generatorTweak (s .g)) ⊕ times (colour (halfBBy s)) (s .R)
 
-  unfoldable pub rowEBy : Site → Block
-  rowEBy s = hash (halfBBy s) (evaluatorTweak (s .g)) ⊕ hash (halfBBy s ⊕ s .R) (evaluatorTweak (s .g)) ⊕ halfABy s
+    unfoldable pub rowEBy : Site → Block
+    rowEBy s = H (halfBBy s) (evaluatorTweak (s .g)) ⊕ H (halfBBy s ⊕ s .R) (evaluatorTweak (s .g)) ⊕ halfABy s
 
-  unfoldable pub halfBy : Scheme
-  halfBy = record {
-    stored = 2;
-    zeroToken = λ s. joined hash (s .g) (rowGBy s) (rowEBy s) (halfABy s) (halfBBy s) ⊕ times (gamma (K (s .code))) (s .R);
-    rows = λ s. rowGBy s ∷ rowEBy s ∷ [];
-    opened = λ g rows. joined hash g (getD rows 0 (block 0)) (getD rows 1 (block 0));
-  }
+    unfoldable pub halfBy : Scheme
+    halfBy = record {
+      stored = 2;
+      zeroToken = λ s. joined H (s .g) (rowGBy s) (rowEBy s) (halfABy s) (halfBBy s) ⊕ times (gamma (K (s .code))) (s .R);
+      rows = λ s. rowGBy s ∷ rowEBy s ∷ [];
+      opened = λ g rows. joined H g (getD rows 0 (block 0)) (getD rows 1 (block 0));
+    }
 
   -- Garbling
   unfoldable pub schemeBy : ℕ → Scheme
-  schemeBy k = cond (eqb k 1) (gax dualKey) (cond (eqb k 2) (gaxr dualKey) halfBy)
+  schemeBy k = cond (eqb k 1) (gax dualKey) (cond (eqb k 2) (gaxr dualKey) (halfBy (hashOf k)))
 
   unfoldable pub zeroAtBy : Garbling → Kind → Site → Block
   zeroAtBy γ (charged u v x) s = schemeBy (γ .scheme) .zeroToken s
@@ -220,3 +222,23 @@ pub record RunZero (K : ℕ → Kind) (γ : Garbling) : Type 0 where
   pub zeros : zeroTokens γ ≡ zeroTokensBy K (seedBlock01 γ) γ
   pub ones : inputOnes γ ≡ inputOnesBy (seedBlock01 γ) γ
   pub rows : material γ ≡ materialBy K (seedBlock01 γ) γ
+
+-- ==== Job 7, the newer half-gates hash
+
+-- ---- "others stay with the old hash": 01's own words of H, of the scheme of a scheme byte, and of 14
+
+-- "H(x,i) = π(2x ⊕ i) ⊕ 2x ⊕ i"
+unfoldable pub hash01 : Block → ℕ → Block
+hash01 x i = π (double x ⊕ block i) ⊕ double x ⊕ block i
+
+unfoldable pub scheme01 : ℕ → Scheme
+scheme01 k = cond (eqb k 1) (gax dualKey) (cond (eqb k 2) (gaxr dualKey) (half hash01))
+
+-- "The scheme is not 1, 2 or 3 (the scheme)."
+unfoldable pub schemeVerdict01 : ℕ → Verdict
+schemeVerdict01 scheme = refuse (not (leb 1 scheme && leb scheme 3)) 14 scheme
+
+-- By every scheme byte but 4 the steps are those of 01, all definitions above that name a scheme go by them, and 14 refuses what it refused.
+pub record OldSchemes : Type 0 where
+  pub steps : (k : ℕ) → (k ≡ 4 → ⊥) → schemeOf k ≡ scheme01 k
+  pub refused-too : (k : ℕ) → (k ≡ 4 → ⊥) → schemeVerdict k ≡ schemeVerdict01 k

@@ -8,6 +8,7 @@ pub mod Tokens
 pub mod Scheme
 pub mod Gax
 pub mod Gaxr
+pub mod Hashes
 pub mod HalfGates
 pub mod Garbling
 pub mod Material

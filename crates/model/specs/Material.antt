@@ -24,7 +24,7 @@ unfoldable pub materialLength : ℕ → ℕ → ℕ → ℕ
 materialLength scheme m p = 11 + m + p * recordLength (schemeOf scheme)
 
 module _ (γ : Garbling) where
-  -- "Header of 9 bytes: mark 47 48, scheme byte (1 to 3), n, m, q of 2 bytes each."
+  -- "Header of 9 bytes: mark 47 48, scheme byte (1 to 3), n, m, q of 2 bytes each."; and 4 (02, job 7)
   unfoldable pub header : List ℕ
   header = 0x47 ∷ 0x48 ∷ γ .scheme ∷ two (γ .circuit .n) ++ two (length (γ .circuit .outputs)) ++ two (length (γ .circuit .gates))
 

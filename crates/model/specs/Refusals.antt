@@ -149,10 +149,10 @@ valuesVerdict n v = refuse (not (eqb (length v) n)) 9 (length v) then bitsVerdic
 unfoldable pub tokensVerdict : ℕ → List ℕ → Verdict
 tokensVerdict k ts = refuse (not (eqb (length ts) (16 * k))) 11 (length ts)
 
--- ---- 14: "The scheme is not 1, 2 or 3 (the scheme)."
+-- ---- 14: "The scheme is not 1, 2 or 3 (the scheme)."; "Refusal 14 admits 4" (02, job 7)
 
 unfoldable pub schemeVerdict : ℕ → Verdict
-schemeVerdict scheme = refuse (not (leb 1 scheme && leb scheme 3)) 14 scheme
+schemeVerdict scheme = refuse (not (leb 1 scheme && leb scheme 4)) 14 scheme
 
 -- ---- 12 to 18: the material s, for a circuit. "Material is well-formed for a circuit if none of conditions 12 to 18 holds."
 

@@ -1,4 +1,4 @@
--- What a scheme is: what garbling and evaluation do at a charged gate. Document 01, "Scheme 1" to "Scheme 3", each give one.
+-- What a scheme is: what garbling and evaluation do at a charged gate. Document 01, "Scheme 1" to "Scheme 3", each give one, and 02, job 7, a fourth.
 use Prim.Native.Nat.{ℕ, _+_, _*_}
 use mathlib.Core.List.{List}
 use Rattle.model.specs.Aes.{Block}

@@ -1,5 +1,6 @@
 -- A garbled gate is what its scheme says: a law for each return of the functions that garble. Assumes nothing.
-use mathlib.Core.Path.{_≡_, refl}
+use mathlib.Core.Path.{_≡_, refl, _∙_}
+use mathlib.Core.List.{List}
 use Prim.Native.Nat.{ℕ, _+_, _*_, _-_}
 use native.Mathlib.Omega.{arith}
 use borrow.Author.Tests.{ne-eqb}
@@ -11,18 +12,19 @@ use Rattle.model.specs.Aes.{Block, _⊕_, times}
 use Rattle.model.specs.Tokens.{colour}
 use Rattle.model.specs.Gax.{dualKey, rowAt, gax}
 use Rattle.model.specs.Gaxr.{reducedZero, gaxr}
-use Rattle.model.specs.HalfGates.{hash, halfA, halfB, rowG, rowE, joined, halfZero, half}
+use Rattle.model.specs.HalfGates.{halfA, halfB, rowG, rowE, joined, halfZero, half}
+use Rattle.model.specs.Hashes.{hashOf}
 use Rattle.model.specs.Garbling.{schemeOf}
-use Rattle.model.specs.Calls.{sealings, hashings, garbleAsks}
+use Rattle.model.specs.Calls.{sealings, hashings, garbleAsks, garbledCalls}
 use Rattle.model.specs.Scheme as Model
 use Rattle.block.specs.declared.Block as Blocks
 use Rattle.scheme.specs.declared.Site.{Site}
 use Rattle.scheme.specs.declared.GarbledGate.{GarbledGate}
-use Rattle.scheme.specs.declared.half.HalfGate.{HalfGate}
+use Rattle.scheme.specs.declared.hash.Hashes.{Hashes}
 use Rattle.scheme.specs.declared.cipher.Answers.{Answers}
-use Rattle.scheme.specs.Garbled.{site, AnswersAre, GarbledIs, HalfIs}
+use Rattle.scheme.specs.Garbled.{site, AnswersAre, GarbledIs, HashesAre}
 
--- ---- the calls of π made, which are as many as are asked
+-- ---- the encryptions made, which are as many as are asked
 
 four-sealings : (s : Model.Site) → length (sealings s) ≡ 4
 unfolding sealings
@@ -54,12 +56,8 @@ module _ (s : Site) (row0 row1 row2 row3 : Blocks.Block) (x y u v : Block) (p q 
   unfolding gaxr
   gaxr-garbled zero z a b c = record { is-zero = z; is-rows = cc; is-calls = all-four }
 
--- ---- half-gates: the calls of two of them
-pub halves-fit : (r x y : Block) (i j : ℕ) (z v : Block) (r′ : Block) (g e : HalfGate) → HalfIs r x i z g → HalfIs r′ y j v e → Fits w64 (g .calls + e .calls)
-halves-fit r x y i j z v r′ g e is-g is-e = omega (arith, is-g .is-calls, is-e .is-calls)
-
--- the tokens A and B of a charged gate
-module _ (s : Site) (u v own : ℕ) (k : kindOf (s .code) ≡ charged u v own) (a b : Block)
+-- ---- half-gates: the tokens A and B of a charged gate, over the hash H
+module _ (H : Block → ℕ → Block) (s : Site) (u v own : ℕ) (k : kindOf (s .code) ≡ charged u v own) (a b : Block)
     (is-a : a ≡ s .xa .bytes ⊕ times (1 - u) (s .r .bytes)) (is-b : b ≡ s .xb .bytes ⊕ times (1 - v) (s .r .bytes)) where
   half-a : a ≡ halfA (site s)
   unfolding halfA site
@@ -69,41 +67,45 @@ module _ (s : Site) (u v own : ℕ) (k : kindOf (s .code) ≡ charged u v own) (
   unfolding halfB site
   half-b = rw k is-b
 
-  -- its two half-gates, tR in the row of the first, and A in that of the second
-  module _ (d : ℕ) (is-d : d ≡ colour b) (z : Block) (is-z : z ≡ times d (s .r .bytes)) (g e : HalfGate)
-      (is-g : HalfIs (s .r .bytes) a (2 * s .g .0) z g) (is-e : HalfIs (s .r .bytes) b (2 * s .g .0 + 1) a e) where
-    row-g : g .row .bytes ≡ rowG hash (site s)
+  -- its rows, from their hashes: tR is in the first, A in the second
+  module _ (h : Hashes) (is-h : HashesAre H (s .r .bytes) a b (s .g .0) h) (d : ℕ) (is-d : d ≡ colour b) (z : Block) (is-z : z ≡ times d (s .r .bytes))
+      (rg re : Blocks.Block) (is-g : rg .bytes ≡ h .a .bytes ⊕ h .ar .bytes ⊕ z) (is-e : re .bytes ≡ h .b .bytes ⊕ h .br .bytes ⊕ a) where
+    row-g : rg .bytes ≡ rowG H (site s)
     unfolding rowG site
-    row-g = rw (← half-a, ← half-b, ← is-d, ← is-z) (is-g .is-row)
+    row-g = rw (← half-a, ← half-b, ← is-d, ← is-z, ← is-h .is-a, ← is-h .is-ar) is-g
 
-    row-e : e .row .bytes ≡ rowE hash (site s)
+    row-e : re .bytes ≡ rowE H (site s)
     unfolding rowE site
-    row-e = rw (← half-a, ← half-b) (is-e .is-row)
+    row-e = rw (← half-a, ← half-b, ← is-h .is-b, ← is-h .is-br) is-e
 
     -- what they give together, and the gate's zero token
-    pub half-garbled : (x : Block) → x ≡ g .hashed .bytes ⊕ times (colour a) (g .row .bytes) ⊕ e .hashed .bytes ⊕ times (colour b) (e .row .bytes ⊕ a) →
+    pub half-garbled : (x : Block) → x ≡ h .a .bytes ⊕ times (colour a) (rg .bytes) ⊕ h .b .bytes ⊕ times (colour b) (re .bytes ⊕ a) →
         (zero : Blocks.Block) → zero .bytes ≡ x ⊕ times (1 - own) (s .r .bytes) → (none : Blocks.Block) →
-        GarbledIs (half hash) (hashings (site s)) (site s) (record { zero = zero; row0 = g .row; row1 = e .row; row2 = none; row3 = none; calls = g .calls + e .calls })
+        GarbledIs (half H) (hashings (site s)) (site s) (record { zero = zero; row0 = rg; row1 = re; row2 = none; row3 = none; calls = h .calls })
     unfolding half halfZero joined site
     half-garbled x is-x zero is-zero none =
         record {
-          is-zero = rw (k, ← row-g, ← row-e, ← half-a, ← half-b, ← is-g .is-hash, ← is-e .is-hash, ← is-x) is-zero;
+          is-zero = rw (k, ← row-g, ← row-e, ← half-a, ← half-b, ← is-h .is-a, ← is-h .is-b, ← is-x) is-zero;
           is-rows = cc (row-g, row-e);
-          is-calls = omega (arith, is-g .is-calls, is-e .is-calls, four-hashings (site s));
+          is-calls = omega (arith, is-h .is-calls, four-hashings (site s));
         }
 
 -- ---- the scheme of a scheme byte
 module _ (scheme : ℕ) (σ : Model.Site) (r : GarbledGate) where
-  pub scheme-gax : scheme ≡ 1 → GarbledIs (gax dualKey) (sealings σ) σ r → GarbledIs (schemeOf scheme) (garbleAsks scheme σ) σ r
-  unfolding schemeOf garbleAsks
-  scheme-gax e h = rw e h
+  -- what is asked, and the encryptions for it: two lists of one length
+  as-many : {L M : Type 0} {S : Model.Scheme} {l : List L} {m : List M} → GarbledIs S l σ r → length l ≡ length m → GarbledIs S m σ r
+  as-many h e = record { is-zero = h .is-zero; is-rows = h .is-rows; is-calls = h .is-calls ∙ e }
 
-  pub scheme-gaxr : scheme ≡ 2 → GarbledIs (gaxr dualKey) (sealings σ) σ r → GarbledIs (schemeOf scheme) (garbleAsks scheme σ) σ r
-  unfolding schemeOf garbleAsks
-  scheme-gaxr e h = rw e h
+  pub scheme-gax : scheme ≡ 1 → GarbledIs (gax dualKey) (sealings σ) σ r → GarbledIs (schemeOf scheme) (garbledCalls scheme σ) σ r
+  unfolding schemeOf garbledCalls garbleAsks sealings
+  scheme-gax e h = rw e (as-many h refl)
 
-  pub scheme-half : (scheme ≡ 1 → ⊥) → (scheme ≡ 2 → ⊥) → GarbledIs (half hash) (hashings σ) σ r → GarbledIs (schemeOf scheme) (garbleAsks scheme σ) σ r
-  unfolding schemeOf garbleAsks
-  scheme-half p q h = simp (ne-eqb _ _ p, ne-eqb _ _ q) h
+  pub scheme-gaxr : scheme ≡ 2 → GarbledIs (gaxr dualKey) (sealings σ) σ r → GarbledIs (schemeOf scheme) (garbledCalls scheme σ) σ r
+  unfolding schemeOf garbledCalls garbleAsks sealings
+  scheme-gaxr e h = rw e (as-many h refl)
+
+  pub scheme-half : (scheme ≡ 1 → ⊥) → (scheme ≡ 2 → ⊥) → GarbledIs (half (hashOf scheme)) (hashings σ) σ r → GarbledIs (schemeOf scheme) (garbledCalls scheme σ) σ r
+  unfolding schemeOf garbledCalls garbleAsks hashings
+  scheme-half p q h = simp (ne-eqb _ _ p, ne-eqb _ _ q) (as-many h refl)
 
 pub ruleset scheme-cases = (scheme-gax, scheme-gaxr, scheme-half)

@@ -1,14 +1,19 @@
 -- A law for each part of a gate: what its pieces are makes it what the scheme defines. Assumes nothing.
 use Prim.Native.Nat.{ℕ, _+_, _*_, _-_}
-use mathlib.Core.Path.{_≡_, sym, ap}
-use Rattle.model.specs.Aes.{Block, _⊕_, times, block, π, double, quadruple}
+use native.Mathlib.Omega.{arith}
+use mathlib.Core.Path.{_≡_, sym, ap, _∙_}
+use borrow.Author.Tests.{ne-eqb}
+use Rattle.model.specs.Aes.{Block, _⊕_, times, block, aes, π, double, quadruple}
 use Rattle.model.specs.Circuit.{value}
 use Rattle.model.specs.Tokens.{colour, freeZero}
 use Rattle.model.specs.Scheme.{Site}
 use Rattle.model.specs.Gax.{keyBlock, carried, tokenOf, valueAt, sealed, rowAt, dualKey}
 use Rattle.model.specs.Gaxr.{reducedZero}
-use Rattle.model.specs.HalfGates.{hash, hashBlock, joined}
-use Rattle.scheme.specs.Garbled.{maskOf}
+use Rattle.model.specs.Hashes.{answered, hashBlock, hashCall, hash, sigma, rekeyedCall, rekeyedHash, hashCallOf, hashOf}
+use Rattle.model.specs.HalfGates.{joined}
+use Rattle.scheme.specs.declared.cipher.Answers.{Answers}
+use Rattle.scheme.specs.declared.hash.Hashes.{Hashes}
+use Rattle.scheme.specs.Garbled.{maskOf, AnswersAre, HashesAre}
 use Rattle.model.proofs.Xor.{⊕-assoc, ⊕-zero, ⊕-length}
 
 -- the token of a colour: y is R where the token carries v = 1
@@ -80,28 +85,56 @@ hash-block-is x i y n k is-k is-y is-n = rw (is-k, is-y, is-n)
 
 -- H: p is π(k)
 pub hash-is : (x : Block) (i : ℕ) (k p h : Block) → k ≡ hashBlock x i → p ≡ π k → h ≡ p ⊕ k → h ≡ hash x i
-unfolding hash
+unfolding hash hashCall answered π
 hash-is x i k p h is-k is-p is-h = rw (is-h, is-p, is-k)
+
+-- scheme 4's H: p is the block k enciphered under the key n
+pub rekeyed-is : (x : Block) (i : ℕ) (n k p h : Block) → n ≡ block i → k ≡ sigma x → p ≡ aes n k → h ≡ p ⊕ k → h ≡ rekeyedHash x i
+unfolding rekeyedHash rekeyedCall answered
+rekeyed-is x i n k p h is-n is-k is-p is-h = rw (is-h, is-p, is-n, is-k)
+
+-- H of a scheme byte, 3 or 4, of two tokens
+module _ (scheme : ℕ) (x y : Block) (i j : ℕ) (r : Answers) where
+  pub by-rekeyed : scheme ≡ 4 → AnswersAre (rekeyedHash x i) (rekeyedHash y j) r → AnswersAre (hashOf scheme x i) (hashOf scheme y j) r
+  unfolding hashOf hashCallOf rekeyedHash
+  by-rekeyed e h = rw e h
+
+  pub by-fixed : (scheme ≡ 4 → ⊥) → AnswersAre (hash x i) (hash y j) r → AnswersAre (hashOf scheme x i) (hashOf scheme y j) r
+  unfolding hashOf hashCallOf hash
+  by-fixed n h = rw (ne-eqb scheme 4 n) h
+
+-- and for a gate: x and y are A ⊕ R and B ⊕ R
+pub gate-hashed : (H : Block → ℕ → Block) (R A B x y : Block) (g : ℕ) (p q : Answers) (h : Hashes) → x ≡ A ⊕ R → y ≡ B ⊕ R →
+    AnswersAre (H A (2 * g)) (H x (2 * g)) p → AnswersAre (H B (2 * g + 1)) (H y (2 * g + 1)) q →
+    h ≡ record { a = p .x; ar = p .y; b = q .x; br = q .y; calls = p .calls + q .calls } → HashesAre H R A B g h
+gate-hashed H R A B x y g p q h is-x is-y is-p is-q is-h =
+    rw is-h
+    (record {
+      is-a = is-p .is-x;
+      is-ar = is-p .is-y ∙ ap (λ (z : Block). H z (2 * g)) is-x;
+      is-b = is-q .is-x;
+      is-br = is-q .is-y ∙ ap (λ (z : Block). H z (2 * g + 1)) is-y;
+      is-calls = omega (arith, is-p .is-calls, is-q .is-calls);
+    })
 
 -- x and 1-u times R
 pub offset-is : (x r y a : Block) (u v : ℕ) → a ≡ x ⊕ y → y ≡ times v r → v ≡ 1 - u → a ≡ x ⊕ times (1 - u) r
 offset-is x r y a u v is-a is-y is-v = rw (is-a, is-y, is-v)
 
--- a half-gate's row, from the hashes of x and of x ⊕ R
-pub half-row-is : (r x y z hx hy v row : Block) (i : ℕ) → row ≡ hx ⊕ v → hx ≡ hash x i → v ≡ hy ⊕ z → hy ≡ hash y i → y ≡ x ⊕ r
-    → row ≡ hash x i ⊕ hash (x ⊕ r) i ⊕ z
-half-row-is r x y z hx hy v row i is-row is-hx is-v is-hy is-y = rw (is-row, is-hx, is-v, is-hy, is-y)
+-- a half-gate's row: v is its second hash, with z
+pub half-row-is : (x y z v r : Block) → r ≡ x ⊕ v → v ≡ y ⊕ z → r ≡ x ⊕ y ⊕ z
+half-row-is x y z v r is-r is-v = rw (is-r, is-v)
 
 -- the exclusive or of the evaluator's four parts, s and t being the colours of A and B
 pub join-is : (ha hb G E A B x u v w y z : Block) (s t : ℕ) → x ≡ ha ⊕ u → u ≡ v ⊕ w → v ≡ times s G → s ≡ colour A → w ≡ hb ⊕ y
     → y ≡ times t z → z ≡ E ⊕ A → t ≡ colour B → x ≡ ha ⊕ times (colour A) G ⊕ hb ⊕ times (colour B) (E ⊕ A)
 join-is ha hb G E A B x u v w y z s t is-x is-u is-v is-s is-w is-y is-z is-t = rw (is-x, is-u, is-v, is-s, is-w, is-y, is-z, is-t)
 
--- scheme 3's token, from the two hashes
-pub joined-is : (g : ℕ) (G E A B ha hb x : Block) → x ≡ ha ⊕ times (colour A) G ⊕ hb ⊕ times (colour B) (E ⊕ A)
-    → ha ≡ hash A (2 * g) → hb ≡ hash B (2 * g + 1) → x ≡ joined hash g G E A B
+-- the token of a half-gate, from the two hashes
+pub joined-is : (H : Block → ℕ → Block) (g : ℕ) (G E A B ha hb x : Block) → x ≡ ha ⊕ times (colour A) G ⊕ hb ⊕ times (colour B) (E ⊕ A)
+    → ha ≡ H A (2 * g) → hb ≡ H B (2 * g + 1) → x ≡ joined H g G E A B
 unfolding joined
-joined-is g G E A B ha hb x is-x is-ha is-hb = rw (is-x, is-ha, is-hb)
+joined-is H g G E A B ha hb x is-x is-ha is-hb = rw (is-x, is-ha, is-hb)
 
 -- a free gate, from its operands' parts
 pub free-zero-is : (p q c : ℕ) (r xa xb x u v w y : Block) → x ≡ u ⊕ v → u ≡ times p xa → v ≡ w ⊕ y → w ≡ times q xb → y ≡ times c r

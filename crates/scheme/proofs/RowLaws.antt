@@ -11,10 +11,12 @@ use Rattle.model.specs.Scheme.{recordLength}
 use Rattle.model.specs.Tokens.{colour}
 use Rattle.model.specs.Gax.{dualKey, openRow, gax}
 use Rattle.model.specs.Gaxr.{gaxr}
-use Rattle.model.specs.HalfGates.{hash, joined, half}
+use Rattle.model.specs.Hashes.{hashOf}
+use Rattle.model.specs.HalfGates.{joined, half}
 use Rattle.model.specs.Garbling.{schemeOf}
 use Rattle.model.specs.Evaluation.{cut}
-use Rattle.model.specs.Calls.{sealingHeld, hashingsHeld, evaluateAsks}
+use Rattle.model.specs.Calls.{sealingHeld, hashingsHeld, evaluateAsks, openedCalls}
+use borrow.Author.Tests.{ne-eqb}
 use Rattle.model.proofs.Blocks.{cut-at}
 use Rattle.model.proofs.Schemes.{is-gax, is-gaxr, is-half}
 use Rattle.scheme.specs.declared.OpenedGate.{OpenedGate}
@@ -55,39 +57,39 @@ pub ruleset held-cases = (held-room, held-gax, held-gaxr)
 
 -- ---- open_charged
 module _ (scheme at : ℕ) (s : List ℕ) (room : RecordRoom scheme at s) where
-  module _ (e : scheme ≡ 3) where
-    three : schemeOf scheme ≡ half hash
-    three = is-half scheme (λ p. omega arith) (λ p. omega arith)
+  module _ (past : 3 ≤ scheme) where
+    by-half : schemeOf scheme ≡ half (hashOf scheme)
+    by-half = is-half scheme (λ p. omega arith) (λ p. omega arith)
 
     pub half-room-g : at + 4 + 16 ≤ length s
     unfolding half recordLength
-    half-room-g = let r = rw three at (room .room) in omega arith
+    half-room-g = let r = rw by-half at (room .room) in omega arith
 
     pub half-room-e : at + 4 + 16 + 16 ≤ length s
     unfolding half recordLength
-    half-room-e = let r = rw three at (room .room) in omega arith
+    half-room-e = let r = rw by-half at (room .room) in omega arith
 
-    asks-two : (g : ℕ) (a b : Block) → evaluateAsks scheme g a b ≡ hashingsHeld g a b
-    unfolding evaluateAsks
-    asks-two g a b = rw e
+    asks-two : (g : ℕ) (a b : Block) → length (openedCalls scheme g a b) ≡ length (hashingsHeld g a b)
+    unfolding openedCalls evaluateAsks hashingsHeld
+    asks-two g a b = rw (ne-eqb scheme 1 (λ p. omega arith), ne-eqb scheme 2 (λ p. omega arith))
 
     pub half-opens : (g : ℕ) (a b rg re : Block) (r : OpenedGate) → rg ≡ take 16 (drop (at + 4) s) → re ≡ take 16 (drop (at + 4 + 16) s)
-        → OpenedIs (joined hash g rg re a b) (hashingsHeld g a b) r
-        → OpenedIs (schemeOf scheme .opened g (cut (schemeOf scheme .stored) (drop 4 (drop at s))) a b) (evaluateAsks scheme g a b) r
+        → OpenedIs (joined (hashOf scheme) g rg re a b) (hashingsHeld g a b) r
+        → OpenedIs (schemeOf scheme .opened g (cut (schemeOf scheme .stored) (drop 4 (drop at s))) a b) (openedCalls scheme g a b) r
     unfolding half cut
     half-opens g a b rg re r is-g is-e is-r = record {
-      is-token = rw (three, drop-drop 4 at s, drop-drop 16 (at + 4) s, ← is-g, ← is-e) (is-r .is-token);
-      is-calls = rw (asks-two g a b) (is-r .is-calls);
+      is-token = rw (by-half, drop-drop 4 at s, drop-drop 16 (at + 4) s, ← is-g, ← is-e) (is-r .is-token);
+      is-calls = is-r .is-calls ∙ sym (asks-two g a b);
     }
 
-  module _ (n : scheme ≡ 3 → ⊥) where
+  module _ (below : scheme < 3) where
     -- it is scheme 1 or scheme 2
     either : {A : Type 0} → (scheme ≡ 1 → A) → (scheme ≡ 2 → A) → A
     either {A = A} f g = go (decLt scheme 2)
       where
         go : Dec (scheme < 2) → A
         go (Dec.yes l) = f (omega (arith, room .known .low))
-        go (Dec.no l) = g (omega (arith, room .known .high))
+        go (Dec.no l) = g (omega arith)
 
     four-rows : scheme ≡ 1 → at + 4 + 64 ≤ length s
     unfolding gax recordLength
@@ -102,8 +104,8 @@ module _ (scheme at : ℕ) (s : List ℕ) (room : RecordRoom scheme at s) where
 
     pub rows-open : (g i : ℕ) (a b row : Block) (r : OpenedGate) → i ≡ 2 * colour a + colour b → HeldRow scheme (at + 4) i s row
         → OpenedIs (dualKey a b (4 * g + 2 * colour a + colour b) row) (sealingHeld g a b) r
-        → OpenedIs (schemeOf scheme .opened g (cut (schemeOf scheme .stored) (drop 4 (drop at s))) a b) (evaluateAsks scheme g a b) r
-    unfolding gax gaxr openRow evaluateAsks
+        → OpenedIs (schemeOf scheme .opened g (cut (schemeOf scheme .stored) (drop 4 (drop at s))) a b) (openedCalls scheme g a b) r
+    unfolding gax gaxr openRow openedCalls evaluateAsks sealingHeld
     rows-open g i a b row r is-i held is-r =
         either
         (λ e. record {

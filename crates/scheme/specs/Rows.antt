@@ -1,4 +1,4 @@
--- The rows of a charged gate in the material s, as they are loaded. Document 01, "Scheme 1" to "Scheme 3" and "Material".
+-- The rows of a charged gate in the material s, as they are loaded. Document 01, "Scheme 1" to "Scheme 3" and "Material"; 02, job 7.
 use Prim.Native.Nat.{ℕ, _+_, _≤_}
 use mathlib.Core.Path.{_≡_}
 use mathlib.Core.List.{List, _∷_}

@@ -1,4 +1,4 @@
-// What the schemes seal tokens with: the dual-key cipher of schemes 1 and 2, the hash of scheme 3, and a bit times a block.
+// What schemes 1 and 2 seal tokens with, the dual-key cipher; and a bit times a block.
 use aes::permute_fast;
 use aes::permute_pair;
 use block::Block;
@@ -11,7 +11,6 @@ ghost use Rattle.aes.specs.Lent.{Lent};
 ghost use Rattle.model.specs.Aes.{_⊕_, times, block};
 ghost use Rattle.model.specs.Gax.{dualKey};
 ghost use Rattle.scheme.specs.Garbled.{maskOf, AnswersAre};
-ghost use Rattle.model.specs.HalfGates.{hashBlock, hash};
 
 // "A bit times a block is the block or zero" (01, Scheme 3): by a mask, since a colour is as good as random and a branch on it costs more.
 // Whoever multiplies has a truth value or a colour, and says so by the two functions below.
@@ -67,7 +66,7 @@ pub fn dual_key(
     permute_fast(tables, w, k).xor(k.xor(z))
 }
 
-// What E or H answers to two that are asked together, and the calls of π made for them.
+// What E or H answers to two that are asked together, and the encryptions made for them.
 pub struct Answers {
     pub x: Block,
     pub y: Block,
@@ -90,26 +89,6 @@ pub fn dual_pair(
 {
     let k = key_block(a, b, i);
     let l = key_block(a, c, j);
-    let p = permute_pair(tables, w, k, l);
-    let x = p.x.xor(k);
-    let y = p.y.xor(l);
-    Answers { x, y, calls: 2 }
-}
-
-// "2x ⊕ i" (01, Scheme 3).
-fn hash_block(x: Block, i: u64) -> Block
-    ensures { λ r. ⌜ r .bytes ≡ hashBlock (x .bytes) i ⌝ }
-{
-    x.doubled().xor(Block::of_number(i))
-}
-
-// "H(x,i) = π(2x ⊕ i) ⊕ 2x ⊕ i" (01, Scheme 3), of two tokens: two calls of π.
-pub fn hash_pair(tables: &[u32; 1024], w: &[u8; 176], x: Block, i: u64, y: Block, j: u64) -> Answers
-    requires { ⌜ Lent (now tables) (now w) ⌝ }
-    ensures { λ r. ⌜ AnswersAre (hash (x .bytes) i) (hash (y .bytes) j) r ⌝ }
-{
-    let k = hash_block(x, i);
-    let l = hash_block(y, j);
     let p = permute_pair(tables, w, k, l);
     let x = p.x.xor(k);
     let y = p.y.xor(l);

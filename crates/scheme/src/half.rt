@@ -1,10 +1,12 @@
-// Half-gates (01, Scheme 3). A charged gate is two half-gates: the generator's, whose row is G, and the evaluator's, whose row is E.
+// Half-gates (01, Scheme 3; 02, job 7), over the hash of the scheme byte. A charged gate is two half-gates: the generator's, whose row is
+// G, and the evaluator's, whose row is E.
 use crate::GarbledGate;
 use crate::OpenedGate;
 use crate::Site;
-use crate::cipher::hash_pair;
 use crate::cipher::times_colour;
 use crate::cipher::times_truth;
+use crate::hash::hash_gate;
+use crate::hash::hash_held;
 use block::Block;
 use model::Truth;
 use model::Wire;
@@ -14,16 +16,10 @@ ghost use Rattle.aes.specs.Lent.{Lent};
 ghost use Rattle.model.specs.Aes.{_⊕_, times};
 ghost use Rattle.model.specs.Circuit.{charged, kindOf};
 ghost use Rattle.model.specs.Tokens.{colour};
-ghost use Rattle.model.specs.HalfGates.{hash, joined, half};
+ghost use Rattle.model.specs.Hashes.{hashOf};
+ghost use Rattle.model.specs.HalfGates.{joined, half};
 ghost use Rattle.model.specs.Calls.{hashings, hashingsHeld};
-ghost use Rattle.scheme.specs.Garbled.{site, GarbledIs, HalfIs, OpenedIs};
-
-// One half-gate: the hash of its token, which the gate's zero token needs again, its row, and the calls of π made for them.
-struct HalfGate {
-    hashed: Block,
-    row: Block,
-    calls: usize,
-}
+ghost use Rattle.scheme.specs.Garbled.{site, GarbledIs, OpenedIs};
 
 // 1-u, the other truth value.
 fn complement(u: Truth) -> Truth
@@ -41,16 +37,11 @@ fn offset_unless(x: Block, r: Block, u: Truth) -> Block
     x.xor(times_truth(r, complement(u)))
 }
 
-// The row H(x,i) ⊕ H(x⊕R,i) ⊕ z: two calls of π.
-fn half_gate(tables: &[u32; 1024], w: &[u8; 176], r: Block, x: Block, i: u64, z: Block) -> HalfGate
-    requires { ⌜ Lent (now tables) (now w) ⌝ }
-    ensures { λ h. ⌜ HalfIs (r .bytes) (x .bytes) i (z .bytes) h ⌝ }
+// The row of a half-gate: H(x,i) ⊕ H(x⊕R,i) ⊕ z, from the two hashes.
+fn half_row(x: Block, y: Block, z: Block) -> Block
+    ensures { λ r. ⌜ r .bytes ≡ x .bytes ⊕ y .bytes ⊕ z .bytes ⌝ }
 {
-    let h = hash_pair(tables, w, x, i, x.xor(r), i);
-    let hashed = h.x;
-    let row = hashed.xor(h.y.xor(z));
-    let calls = h.calls;
-    HalfGate { hashed, row, calls }
+    x.xor(y.xor(z))
 }
 
 // H(A,j) ⊕ sG ⊕ H(B,k) ⊕ t(E⊕A), from the rows G and E, the tokens A and B of colours s and t, and their hashes.
@@ -62,10 +53,11 @@ fn join(ha: Block, hb: Block, g: Block, e: Block, a: Block, b: Block) -> Block
     ha.xor(times_colour(g, s).xor(hb.xor(times_colour(e.xor(a), t))))
 }
 
-// Scheme 3: the rows G and E, by four calls of π. The pair u, v of truth values has a value of its own, own.
+// The rows G and E, by four encryptions. The pair u, v of truth values has a value of its own, own.
 pub fn garble_half(
     tables: &[u32; 1024],
     w: &[u8; 176],
+    scheme: u8,
     s: Site,
     u: Truth,
     v: Truth,
@@ -73,19 +65,15 @@ pub fn garble_half(
 ) -> GarbledGate
     requires { ⌜ Lent (now tables) (now w) ⌝ }
     requires { ⌜ kindOf (s .code) ≡ charged (u .0) (v .0) (own .0) ⌝ }
-    ensures { λ r. ⌜ GarbledIs (half hash) (hashings (site s)) (site s) r ⌝ }
+    ensures { λ r. ⌜ GarbledIs (half (hashOf scheme)) (hashings (site s)) (site s) r ⌝ }
 {
     let r = s.r;
-    let xa = s.xa;
-    let a = offset_unless(xa, r, u);
+    let a = offset_unless(s.xa, r, u);
     let b = offset_unless(s.xb, r, v);
-    let j = 2 * (s.g.0 as u64);
-    let k = j + 1;
-    let generator = half_gate(tables, w, r, a, j, times_colour(r, b.colour()));
-    let evaluator = half_gate(tables, w, r, b, k, a);
-    let row_g = generator.row;
-    let row_e = evaluator.row;
-    let x = join(generator.hashed, evaluator.hashed, row_g, row_e, a, b);
+    let h = hash_gate(tables, w, scheme, r, a, b, s.g);
+    let row_g = half_row(h.a, h.ar, times_colour(r, b.colour()));
+    let row_e = half_row(h.b, h.br, a);
+    let x = join(h.a, h.b, row_g, row_e, a, b);
     let zero = offset_unless(x, r, own);
     let none = Block::of_number(0);
     GarbledGate {
@@ -94,14 +82,15 @@ pub fn garble_half(
         row1: row_e,
         row2: none,
         row3: none,
-        calls: generator.calls + evaluator.calls,
+        calls: h.calls,
     }
 }
 
-// The gate's token, from the rows G and E and the tokens held on its operands: two calls of π.
+// The gate's token, from the rows G and E and the tokens held on its operands: two encryptions.
 pub fn open_half(
     tables: &[u32; 1024],
     w: &[u8; 176],
+    scheme: u8,
     g: Wire,
     rg: Block,
     re: Block,
@@ -109,11 +98,9 @@ pub fn open_half(
     b: Block,
 ) -> OpenedGate
     requires { ⌜ Lent (now tables) (now w) ⌝ }
-    ensures { λ r. ⌜ OpenedIs (joined hash (g .0) (rg .bytes) (re .bytes) (a .bytes) (b .bytes)) (hashingsHeld (g .0) (a .bytes) (b .bytes)) r ⌝ }
+    ensures { λ r. ⌜ OpenedIs (joined (hashOf scheme) (g .0) (rg .bytes) (re .bytes) (a .bytes) (b .bytes)) (hashingsHeld (g .0) (a .bytes) (b .bytes)) r ⌝ }
 {
-    let j = 2 * (g.0 as u64);
-    let k = j + 1;
-    let h = hash_pair(tables, w, a, j, b, k);
+    let h = hash_held(tables, w, scheme, a, b, g);
     let token = join(h.x, h.y, rg, re, a, b);
     let calls = h.calls;
     OpenedGate { token, calls }

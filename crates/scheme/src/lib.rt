@@ -1,15 +1,15 @@
-// One gate, garbled and opened, by each of the three schemes (01, Tokens and Scheme 1 to Scheme 3).
+// One gate, garbled and opened, by each of the four schemes (01, Tokens and Scheme 1 to Scheme 3; 02, job 7).
 // Whatever enciphers is lent the T-tables of AES and the schedule w of π's fixed key.
-mod cipher; // the dual-key cipher, the hash, and a bit times a block
+mod cipher; // the dual-key cipher, and a bit times a block
 mod free; // free gates
 mod gax; // schemes 1 and 2
-mod half; // scheme 3
+mod hash; // the hashes of half-gates
+mod half; // schemes 3 and 4
 mod rows; // a charged gate, opened with its rows in the material
 
 use block::Block;
 pub use cipher::Answers;
 pub use cipher::dual_key;
-pub use cipher::hash_pair;
 pub use cipher::times_colour;
 pub use cipher::times_truth;
 pub use free::free_token;
@@ -19,6 +19,7 @@ pub use gax::garble_gaxr;
 pub use gax::open_row;
 pub use half::garble_half;
 pub use half::open_half;
+pub use hash::hash_pair;
 use model::Truth;
 use model::Wire;
 pub use rows::open_charged;
@@ -26,7 +27,7 @@ ghost use mathlib.Core.Path.{_≡_};
 ghost use Rattle.aes.specs.Lent.{Lent};
 ghost use Rattle.model.specs.Circuit.{charged, kindOf};
 ghost use Rattle.model.specs.Garbling.{Known, schemeOf};
-ghost use Rattle.model.specs.Calls.{garbleAsks};
+ghost use Rattle.model.specs.Calls.{garbledCalls};
 ghost use Rattle.scheme.specs.Garbled.{site, GarbledIs};
 
 // What garbling knows at a charged gate.
@@ -39,7 +40,7 @@ pub struct Site {
     pub xb: Block,
 }
 
-// A charged gate, garbled: its zero token, its rows in the material's order, and the calls of π made for them. A row that the scheme
+// A charged gate, garbled: its zero token, its rows in the material's order, and the encryptions made for them. A row that the scheme
 // does not store is block 0.
 pub struct GarbledGate {
     pub zero: Block,
@@ -50,7 +51,7 @@ pub struct GarbledGate {
     pub calls: usize,
 }
 
-// A charged gate, opened: its token, and the calls of π made for it.
+// A charged gate, opened: its token, and the encryptions made for it.
 pub struct OpenedGate {
     pub token: Block,
     pub calls: usize,
@@ -69,11 +70,11 @@ pub fn garble_gate(
     requires { ⌜ Lent (now tables) (now w) ⌝ }
     requires { ⌜ Known scheme ⌝ }
     requires { ⌜ kindOf (s .code) ≡ charged (u .0) (v .0) (own .0) ⌝ }
-    ensures { λ r. ⌜ GarbledIs (schemeOf scheme) (garbleAsks scheme (site s)) (site s) r ⌝ }
+    ensures { λ r. ⌜ GarbledIs (schemeOf scheme) (garbledCalls scheme (site s)) (site s) r ⌝ }
 {
     match scheme {
         1 => garble_gax(tables, w, s),
         2 => garble_gaxr(tables, w, s),
-        _ => garble_half(tables, w, s, u, v, own),
+        _ => garble_half(tables, w, scheme, s, u, v, own),
     }
 }

@@ -1,4 +1,5 @@
-// One charged gate, opened: its token, from its rows in the material and the tokens held on its operands (01, Scheme 1 to Scheme 3).
+// One charged gate, opened: its token, from its rows in the material and the tokens held on its operands (01, Scheme 1 to Scheme 3;
+// 02, job 7).
 ghost use mathlib.Core.Path.{_≡_};
 ghost use mathlib.Core.List.{_∷_};
 ghost use lib.ListN.{getD, drop};
@@ -6,7 +7,7 @@ ghost use Rattle.aes.specs.Lent.{Lent};
 ghost use Rattle.model.specs.Aes.{block};
 ghost use Rattle.model.specs.Garbling.{schemeOf};
 ghost use Rattle.model.specs.Evaluation.{cut};
-ghost use Rattle.model.specs.Calls.{evaluateAsks};
+ghost use Rattle.model.specs.Calls.{openedCalls};
 ghost use Rattle.scheme.specs.Garbled.{OpenedIs};
 ghost use Rattle.scheme.specs.Rows.{RowRoom, RecordRoom, HeldRoom, HeldRow};
 use crate::OpenedGate;
@@ -40,7 +41,7 @@ fn held_row(scheme: u8, material: &[u8], first: usize, i: usize) -> Block
     reduced_row(material, first, i)
 }
 
-// The token of charged gate g, whose record stands at an index, and the calls of π made. Schemes 1 and 2 load the one row that the
+// The token of charged gate g, whose record stands at an index, and the encryptions made. Schemes 1 and 2 load the one row that the
 // colours point at.
 pub fn open_charged(
     tables: &[u32; 1024],
@@ -54,13 +55,13 @@ pub fn open_charged(
 ) -> OpenedGate
     requires { ⌜ Lent (now tables) (now w) ⌝ }
     requires { ⌜ RecordRoom scheme at (now material) ⌝ }
-    ensures { λ r. ⌜ OpenedIs (schemeOf scheme .opened (g .0) (cut (schemeOf scheme .stored) (drop 4 (drop at (now (material .entry))))) (a .bytes) (b .bytes)) (evaluateAsks scheme (g .0) (a .bytes) (b .bytes)) r ⌝ }
+    ensures { λ r. ⌜ OpenedIs (schemeOf scheme .opened (g .0) (cut (schemeOf scheme .stored) (drop 4 (drop at (now (material .entry))))) (a .bytes) (b .bytes)) (openedCalls scheme (g .0) (a .bytes) (b .bytes)) r ⌝ }
 {
     let first = at + 4;
-    if scheme == 3 {
+    if 3 <= scheme {
         let rg = load(material, first);
         let re = load(material, first + 16);
-        return open_half(tables, w, g, rg, re, a, b);
+        return open_half(tables, w, scheme, g, rg, re, a, b);
     }
     let row = held_row(scheme, material, first, row_index(a, b));
     open_row(tables, w, g, a, b, row)

@@ -9,6 +9,4 @@ unfolding hashingsHeld
 returns c = search joined-is
 
 pub open-half-spec : {M : Type 1} → statement M
-open-half-spec =
-    tie.close
-    (tie.spec (λ c. search needs) (λ c. search needs) (λ c. search needs) (λ c κs. search needs) (λ c κs. search needs) returns)
+open-half-spec = tie.close (tie.spec (λ c κs. search needs) (λ c κs. search needs) returns)

@@ -1,23 +1,10 @@
 use borrow.Author.Needs.{needs}
-use Rattle.aes.proofs.FoldedLaws.{folded-round}
+use Rattle.aes.proofs.Rounds.{round-keyed}
 use Rattle.aes.proofs.folded.Folded.round.Statement.{statement}
 use Rattle.aes.proofs.folded.Folded.round.Tie as tie
 
 returns : tie.Need-returns
-returns c =
-    let made = c .before in
-    let four = made .before in
-    let three = four .before in
-    let two = three .before in
-    let one = two .before in
-    let none = one .before in
-    let key = none .before in
-    let s = key .before in
-    folded-round _ (s .before .pre .0) _ _ _ _ _ _ _ _ _ _ (s .words .ensures) (key .round-key .ensures) (none .two .ensures) (one .spread .ensures)
-    (two .spread2 .ensures) (three .spread3 .ensures) (four .spread4 .ensures) _ _ (made .fold .ensures) (c .fold2 .ensures)
+returns c = round-keyed _ _ _ (c .before .round-key .ensures) _ _ (c .keyed-round .ensures)
 
 pub round-spec : {M : Type 1} → statement M
-round-spec =
-    tie.close
-    (tie.spec (λ c κs. search needs) (λ c κs. search needs) (λ c κs. search needs) (λ c κs. search needs) (λ c κs. search needs)
-    (λ c κs. search needs) (λ c κs. search needs) (λ c κs. search needs) (λ c κs. search needs) returns)
+round-spec = tie.close (tie.spec (λ c κs. search needs) (λ c κs. search needs) returns)

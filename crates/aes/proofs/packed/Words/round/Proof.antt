@@ -1,18 +1,10 @@
 use borrow.Author.Needs.{needs}
-use Rattle.aes.proofs.Spreads.{round-state}
+use Rattle.aes.proofs.Rounds.{round-keyed}
 use Rattle.aes.proofs.packed.Words.round.Statement.{statement}
 use Rattle.aes.proofs.packed.Words.round.Tie as tie
 
 returns : tie.Need-returns
-returns c =
-    let three = c .before in
-    let two = three .before in
-    let one = two .before in
-    let key = one .before in
-    round-state _ (key .before .pre .0) _ _ _ _ (key .round-key .ensures) _ _ _ _ (one .spread .ensures)
-    (two .spread2 .ensures) (three .spread3 .ensures) (c .spread4 .ensures)
+returns c = round-keyed _ _ _ (c .before .round-key .ensures) _ _ (c .keyed-round .ensures)
 
 pub round-spec : {M : Type 1} → statement M
-round-spec =
-    tie.close
-    (tie.spec (λ c κs. search needs) (λ c κs. search needs) (λ c κs. search needs) (λ c κs. search needs) (λ c κs. search needs) returns)
+round-spec = tie.close (tie.spec (λ c κs. search needs) (λ c κs. search needs) returns)

@@ -1,7 +1,7 @@
 use borrow.Author.Needs.{needs}
 use Rattle.scheme.proofs.PieceLaws.{hash-is}
-use Rattle.scheme.proofs.cipher.hash_pair.Statement.{statement}
-use Rattle.scheme.proofs.cipher.hash_pair.Tie as tie
+use Rattle.scheme.proofs.hash.hash_pair.Statement.{statement}
+use Rattle.scheme.proofs.hash.hash_pair.Tie as tie
 
 returns : tie.Need-returns
 returns c =

@@ -1,7 +1,7 @@
 use borrow.Author.Needs.{needs}
 use Rattle.scheme.proofs.PieceLaws.{hash-block-is}
-use Rattle.scheme.proofs.cipher.hash_block.Statement.{statement}
-use Rattle.scheme.proofs.cipher.hash_block.Tie as tie
+use Rattle.scheme.proofs.hash.hash_block.Statement.{statement}
+use Rattle.scheme.proofs.hash.hash_block.Tie as tie
 
 returns : tie.Need-returns
 returns c = search hash-block-is
