@@ -49,8 +49,8 @@ pub fn encrypt_pair_under(tables: &[u32; 1024], key: Block, x: Block, y: Block) 
     let first = Words::of_block(key);
     let mut s = Words::of_block(x).add(first);
     let mut t = Folded::of_words(Words::of_block(y).add(first));
-    let mut k = next_key(tables, first, 1);
-    let mut rc: u32 = 2;
+    let mut k = next_key(tables, first, 1); // the key of round r
+    let mut rc: u32 = 2; // the round constant of the next
     for r in 1usize..10 {
         s = s.keyed_round(tables, k);
         t = t.keyed_round(tables, k);
@@ -71,9 +71,9 @@ pub fn encrypt_each_under(tables: &[u32; 1024], i: Block, x: Block, j: Block, y:
     let other = Words::of_block(j);
     let mut s = Words::of_block(x).add(first);
     let mut t = Folded::of_words(Words::of_block(y).add(other));
-    let mut k = next_key(tables, first, 1);
+    let mut k = next_key(tables, first, 1); // the keys of round r
     let mut l = next_key(tables, other, 1);
-    let mut rc: u32 = 2;
+    let mut rc: u32 = 2; // the round constant of the next
     for r in 1usize..10 {
         s = s.keyed_round(tables, k);
         t = t.keyed_round(tables, l);

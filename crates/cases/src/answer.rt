@@ -60,7 +60,7 @@ pub fn done(answer: &[u8]) -> bool {
     same(&[0u8], answer)
 }
 
-// Whether an answer is 00 and a number: calls of π.
+// Whether an answer is 00 and a number: encryptions.
 fn done_calls(calls: usize, answer: &[u8]) -> bool {
     if answer.len() != 5 {
         return false;
@@ -68,7 +68,7 @@ fn done_calls(calls: usize, answer: &[u8]) -> bool {
     (answer[0] == 0) & (word_at(answer, 1) == calls)
 }
 
-// Whether an answer is 00 and two numbers: a material's length, and calls of π.
+// Whether an answer is 00 and two numbers: a material's length, and encryptions.
 fn done_with(len: usize, calls: usize, answer: &[u8]) -> bool {
     if answer.len() != 9 {
         return false;

@@ -272,7 +272,7 @@ module _ (c s : List ℕ) (n q : ℕ) (o : List ℕ) (start : WalkStart c s n q 
   }
 
   module _ (k at calls : ℕ) (d : List ℕ) (inv : Walking c s n q o k at calls d) where
-    -- at most two calls of π for each gate
+    -- at most two encryptions for each gate
     pub walk-few : calls ≤ 2 * k
     walk-few =
         let gs = tabulate k (gateAt c) in

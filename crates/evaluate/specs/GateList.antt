@@ -24,7 +24,7 @@ use Rattle.evaluate.specs.Walk.{TokenStart, Walking}
 
 -- ---- the walk's steps
 
--- on to gate k of a pass, with row records of so many bytes, and so many calls of π made
+-- on to gate k of a pass, with row records of so many bytes, and so many encryptions made
 pub record GoesTo (pass k : ℕ) (z : Sizes) (here : Cursor) (stride calls : ℕ) (w : Walk) : Type 0 where
   pub is-pass : w .pass ≡ pass
   pub is-k : w .k ≡ k
@@ -43,7 +43,7 @@ pub record Begun (n m q : ℕ) (s : List ℕ) (w : Walk) : Type 0 where
   pub goes : (leb q 65535 && sizesHold n m q) ≡ true → GoesTo 0 0 (record { n = n; m = m; q = q; p = 0 }) (record { at = 9 }) (recordLength (schemeOf (getD s 2 0))) 0 w
   pub stops : (leb q 65535 && sizesHold n m q) ≡ false → Ended (Evaluated.Refused Limits) w
 
--- the token of gate k is written, and so many calls of π are made: on to the next gate, or over
+-- the token of gate k is written, and so many encryptions are made: on to the next gate, or over
 pub record Onward (k : ℕ) (z : Sizes) (there : Cursor) (stride calls : ℕ) (w : Walk) : Type 0 where
   pub goes : k + 1 < z .q → GoesTo 2 (k + 1) z there stride calls w
   pub stops : z .q ≤ k + 1 → Ended (Evaluated.Done calls) w
@@ -87,7 +87,7 @@ pub record Checked (c ts s o : List ℕ) (left k : ℕ) (z : Sizes) (at : ℕ) (
   pub untouched : d ≡ o
   pub turns : 2 * gates c ≤ left + k
 
--- pass 2: the tokens of k gates are written, by so many calls of π; the turns left are at least as many as are needed
+-- pass 2: the tokens of k gates are written, by so many encryptions; the turns left are at least as many as are needed
 pub record Written (c ts s o : List ℕ) (left k : ℕ) (z : Sizes) (at calls : ℕ) (d : List ℕ) : Type 0 where
   pub sizes : z ≡ sizesOf c
   pub fit : evaluateVerdict c ts s (length o) ≡ fine
@@ -135,7 +135,7 @@ pub record Checks (ts s : List ℕ) (k : ℕ) (z : Sizes) (stride at : ℕ) : Ty
   pub tokens : length ts ≡ 16 * z .n
   pub room : at + 2 + z .m ≤ length s
 
--- room for the gate's token, and few calls of π made; t and k are what is lent
+-- room for the gate's token, and few encryptions made; t and k are what is lent
 pub record Writes (t k s d : List ℕ) (w : Walk) (g : Gate) : Type 0 where
   pub lent : Lent t k
   pub few : Few (w .k) (w .z) (w .z .q)

@@ -35,7 +35,7 @@ pub record TokenStart (scheme n k : ℕ) (g : Gate) (s : List ℕ) (at : ℕ) (d
   pub operands : Operands n k g d
   pub record-room : GateRoom scheme (g .code) at s
 
--- its token, made from those of its operands in the buffer, which is d at entry and d′ at exit, and the calls of π made
+-- its token, made from those of its operands in the buffer, which is d at entry and d′ at exit, and the encryptions made
 pub record TokenIs (scheme n k : ℕ) (g : Gate) (s : List ℕ) (at : ℕ) (d : List ℕ) (next calls : ℕ) (d′ : List ℕ) : Type 0 where
   pub token-left : d′ ≡ put d (16 * (n + k)) (openAt (schemeOf scheme) (kindOf (g .code)) (gateWire n k) (drop at s) (tokenAt d (g .a .0)) (tokenAt d (g .b .0)))
   pub is-next : next ≡ at + charge (kindOf (g .code)) * recordLength (schemeOf scheme)
@@ -45,7 +45,7 @@ pub record TokenIs (scheme n k : ℕ) (g : Gate) (s : List ℕ) (at : ℕ) (d : 
 pub record FreeTokenIs (n k : ℕ) (g : Gate) (d d′ : List ℕ) : Type 0 where
   pub left : (scheme : ℕ) (s : List ℕ) (at : ℕ) → TokenIs scheme n k g s at d at 0 d′
 
--- the same of gate k of an accepted circuit, few calls of π so far
+-- the same of gate k of an accepted circuit, few encryptions so far
 pub record OpenStart (scheme : ℕ) (c : List ℕ) (n k : ℕ) (s : List ℕ) (at calls : ℕ) (d : List ℕ) : Type 0 where
   pub accepted : circuitVerdict c ≡ fine
   pub is-n : n ≡ inputs c
@@ -84,7 +84,7 @@ S s = schemeOf (getD s 2 0)
 unfoldable pub tokensTo : List ℕ → List ℕ → List Block → ℕ → List Block
 tokensTo c s ts k = openGates (S s) (tabulate k (gateAt c)) (drop 9 s) ts
 
--- d is the buffer after k gates of q and so many calls of π, and o at the start, whose first n blocks are the inputs' tokens
+-- d is the buffer after k gates of q and so many encryptions, and o at the start, whose first n blocks are the inputs' tokens
 pub record Walking (c s : List ℕ) (n q : ℕ) (o : List ℕ) (k at calls : ℕ) (d : List ℕ) : Type 0 where
   pub within : k ≤ q
   pub same-length : length d ≡ length o

@@ -14,7 +14,7 @@ pub mod list; // a list of gate records
 pub mod outputs; // the outputs' tokens
 pub mod walk; // all gates
 
-// The tokens of all wires and the calls of π, from the inputs' tokens; or the first of refusals 1 to 7, 11, 12 to 18, 19.
+// The tokens of all wires and the encryptions, from the inputs' tokens; or the first of refusals 1 to 7, 11, 12 to 18, 19.
 pub fn evaluate(circuit: &[u8], tokens: &[u8], material: &[u8], wires: &mut [u8]) -> Evaluated
     ensures { λ r. ⌜ EvaluateIs (now (circuit .entry)) (now (tokens .entry)) (now (material .entry)) (now (wires .entry)) (evaluatedOf r) (now (wires .exit)) ⌝ }
 {

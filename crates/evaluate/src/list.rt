@@ -253,7 +253,7 @@ pub fn check_record(s: Walk, g: Gate, tokens: &[u8], material: &[u8], wires: &mu
     record_checked(k, z, there, stride, tokens, material, wires)
 }
 
-// The token of gate k is written, and so many calls of π are made with it. After the last they are the answer.
+// The token of gate k is written, and so many encryptions are made with it. After the last they are the answer.
 fn token_written(k: usize, z: Sizes, there: Cursor, stride: usize, calls: usize) -> Walk
     requires { ⌜ Few k z (z .q) ⌝ }
     ensures { λ r. ⌜ Onward k z there stride calls r ⌝ }
@@ -265,7 +265,7 @@ fn token_written(k: usize, z: Sizes, there: Cursor, stride: usize, calls: usize)
     ended(k, z, there, stride, Evaluated::Done(calls))
 }
 
-// Pass 2 at gate g: its token, and its calls of π are added.
+// Pass 2 at gate g: its token, and its encryptions are added.
 pub fn write_next(
     tables: &[u32; 1024],
     w: &[u8; 176],
@@ -328,7 +328,7 @@ pub fn walk_gates(
     finish(s)
 }
 
-// The tokens of all wires and the calls of π, from n, m, the gates and the inputs' tokens: what `evaluate` answers to the bytes
+// The tokens of all wires and the encryptions, from n, m, the gates and the inputs' tokens: what `evaluate` answers to the bytes
 // made from them; or the first of refusals 3, 6 and 7, 11, 12 to 18, 19. The T-tables and π's schedule are made once, here.
 pub fn evaluate_gates(
     n: u16,

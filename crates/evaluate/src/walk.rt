@@ -48,7 +48,7 @@ pub fn write_free(n: usize, k: usize, g: Gate, wires: &mut [u8])
     store(wires, place, free_token(x, takes.both, b));
 }
 
-// The same of a charged gate, whose row record stands here. Answers the calls of π made.
+// The same of a charged gate, whose row record stands here. Answers the encryptions made.
 pub fn write_charged(
     tables: &[u32; 1024],
     w: &[u8; 176],
@@ -75,13 +75,13 @@ pub fn write_charged(
     made.calls
 }
 
-// Between two gates: where the next row record stands, and the calls of π made so far.
+// Between two gates: where the next row record stands, and the encryptions made so far.
 struct SoFar {
     here: Cursor,
     calls: usize,
 }
 
-// The token of gate k as the circuit's bytes have it, and what is so far after it: a charged gate adds the calls of π made for it.
+// The token of gate k as the circuit's bytes have it, and what is so far after it: a charged gate adds the encryptions made for it.
 fn write_token_at(
     tables: &[u32; 1024],
     w: &[u8; 176],
@@ -108,7 +108,7 @@ fn write_token_at(
     SoFar { here, calls }
 }
 
-// The tokens of the gates, written after the inputs' tokens, which stand at the front of the buffer. Answers the calls of π made,
+// The tokens of the gates, written after the inputs' tokens, which stand at the front of the buffer. Answers the encryptions made,
 // added up gate by gate.
 pub fn write_tokens(
     tables: &[u32; 1024],
@@ -134,7 +134,7 @@ pub fn write_tokens(
     s.calls
 }
 
-// The tokens of all wires, from those of the inputs; answers the calls of π made. The T-tables and π's schedule are made once, here,
+// The tokens of all wires, from those of the inputs; answers the encryptions made. The T-tables and π's schedule are made once, here,
 // and lent down.
 pub fn evaluate_wires(
     circuit: &[u8],

@@ -45,7 +45,7 @@ zeros-long c seed want = join-length (rw tabulate-length at (zero-tokens-blocks 
 recordsTo : List ℕ → List ℕ → Wanted → ℕ → List ℕ
 recordsTo c seed want k = records (garblingOf c seed want) (tabulate k (gateAt c)) (inputZeros (garblingOf c seed want))
 
--- k gates are done, by so many calls of π: m and z were m₀ and z₀ at the start
+-- k gates are done, by so many encryptions: m and z were m₀ and z₀ at the start
 pub record Walking (c seed : List ℕ) (want : Wanted) (q : ℕ) (m₀ z₀ : List ℕ) (k at calls : ℕ) (m z : List ℕ) : Type 0 where
   pub within : k ≤ q
   pub is-at : at ≡ lastStart (want .scheme) (charges (tabulate k (gateAt c)))

@@ -109,7 +109,7 @@ pub record StepStart (c seed : List ℕ) (want : Wanted) (k at : ℕ) (m z : Lis
   pub wires-room : 16 * (inputs c + gates c) ≤ length z
   pub so-far : take (16 * (inputs c + k)) z ≡ joinBlocks (zerosTo c seed want k)
 
--- what gate k leaves: m′ and z′ at exit, the place of the next record, and the calls of π made
+-- what gate k leaves: m′ and z′ at exit, the place of the next record, and the encryptions made
 pub record StepIs (c seed : List ℕ) (want : Wanted) (k at : ℕ) (m z : List ℕ) (next calls : ℕ) (m′ z′ : List ℕ) : Type 0 where
   pub zeros-left : z′ ≡ put z (16 * (inputs c + k)) (zeroStep (garblingOf c seed want) (zerosTo c seed want k) (gateAt c k))
   pub material-left : m′ ≡ put m at (recordOf (garblingOf c seed want) (kindOf (gateAt c k .code)) (siteOf (garblingOf c seed want) (zerosTo c seed want k) (gateAt c k)))

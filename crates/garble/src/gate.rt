@@ -39,7 +39,7 @@ fn fresh_block(tables: &[u32; 1024], ws: &[u8; 176], wanted: Wanted, own: Wire) 
     }
 }
 
-// A charged gate's zero token, its rows, and the calls of π made for them.
+// A charged gate's zero token, its rows, and the encryptions made for them.
 pub fn make_charged(
     tables: &[u32; 1024],
     w: &[u8; 176],

@@ -28,7 +28,7 @@ pub mod walk;
 pub mod whole;
 
 // The material, the zero tokens of all wires and the one tokens of the inputs; or the first of refusals 1 to 7, 8, 14, 19.
-// Answers the material's length and the calls of π made.
+// Answers the material's length and the encryptions made.
 pub fn garble(
     circuit: &[u8],
     seed: &[u8],

@@ -56,7 +56,7 @@ pub fn write_record(material: &mut [u8], at: usize, own: Wire, stored: usize, g:
     write_four(material, at, own, g);
 }
 
-// A charged gate: its zero token goes to a slot of the zeros, its record to a place in the material. Answers the calls of π made.
+// A charged gate: its zero token goes to a slot of the zeros, its record to a place in the material. Answers the encryptions made.
 pub fn garble_charged(
     tables: &[u32; 1024],
     w: &[u8; 176],

@@ -30,13 +30,13 @@ pub fn read_operands(circuit: &[u8], n: usize, k: usize, zeros: &[u8]) -> GateIn
     }
 }
 
-// What a gate comes to: the place of the next record, and the calls of π that were made for it.
+// What a gate comes to: the place of the next record, and the encryptions that were made for it.
 pub struct Stepped {
     pub at: usize,
     pub calls: usize,
 }
 
-// One gate: what it adds to the zeros and to the material, at a place. A free gate makes no call of π.
+// One gate: what it adds to the zeros and to the material, at a place. A free gate makes no encryption.
 pub fn garble_step(
     tables: &[u32; 1024],
     w: &[u8; 176],
@@ -83,7 +83,7 @@ pub fn garble_step(
     }
 }
 
-// All gates, after the inputs' zero tokens and the material's header. Answers the calls of π made, added up gate by gate.
+// All gates, after the inputs' zero tokens and the material's header. Answers the encryptions made, added up gate by gate.
 pub fn garble_gates(
     tables: &[u32; 1024],
     w: &[u8; 176],

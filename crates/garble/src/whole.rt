@@ -36,7 +36,7 @@ fn garble_front(
     write_header(material, plan.wanted.scheme, z.n, z.m, z.q);
 }
 
-// The gates, and the last record after theirs. Answers the calls of π made.
+// The gates, and the last record after theirs. Answers the encryptions made.
 fn garble_body(
     tables: &[u32; 1024],
     w: &[u8; 176],
@@ -59,7 +59,7 @@ fn garble_body(
 }
 
 // The garbling of an accepted circuit. The constants are named here, once, and lent down; so is the seed's schedule.
-// Answers the calls of π made.
+// Answers the encryptions made.
 pub fn garble_whole(
     circuit: &[u8],
     seed: &[u8],

@@ -280,11 +280,11 @@ module _ (P P′ : BlockCipher) where
   module _ (k : ℕ) (l : List Ask) (agree : EncryptionsAgree (map (callFor k) l)) where
     ciphers-agree : CiphersAgree (dualKeyOver P) (dualKeyOver P′) l
     unfolding callFor
-    ciphers-agree A B T m Z = rw (agree _ (mem-map (callFor k) m))
+    ciphers-agree A B T m Z = ap (λ (b : Block). b ⊕ keyBlock A B T ⊕ Z) (agree (record { key = fixedKey; input = keyBlock A B T }) (mem-map (callFor k) m))
 
     hashes-agree : HashesAgree (hashOver P k) (hashOver P′ k) l
     unfolding callFor
-    hashes-agree x i m = rw (agree _ (mem-map (callFor k) m))
+    hashes-agree x i m = ap (λ (b : Block). b ⊕ hashCallOf k x i .input) (agree (hashCallOf k x i) (mem-map (callFor k) m))
 
   -- what uses only the asks listed uses only their encryptions
   by-encryptions : (k : ℕ) {S S′ : Scheme} {Agree : List Ask → Type 0} {garbling : Site → List Ask} {opening : ℕ → Block → Block → List Ask}

@@ -128,7 +128,7 @@ abbrev pub evaluatedOf : Evaluated → Answer ℕ
 evaluatedOf (Evaluated.Done k) = yes k
 evaluatedOf (Evaluated.Refused f) = no (verdictOf f)
 
--- the calls of π made, from the circuit, the input tokens and the material
+-- the encryptions made, from the circuit, the input tokens and the material
 unfoldable pub evaluateCallsOf : List ℕ → List ℕ → List ℕ → ℕ
 evaluateCallsOf c ts s = evaluateCalls (getD s 2 0) (circuitOf c .gates) (drop 9 s) (cut (inputs c) ts)
 

@@ -79,13 +79,13 @@ pub enum Ran {
     Refused(Refusal),
 }
 
-// The answer of garble: the material's length and the calls of π, or the refusal.
+// The answer of garble: the material's length and the encryptions, or the refusal.
 pub enum Garbled {
     Done { length: usize, calls: usize },
     Refused(Refusal),
 }
 
-// The answer of evaluate: the calls of π, or the refusal.
+// The answer of evaluate: the encryptions, or the refusal.
 pub enum Evaluated {
     Done(usize),
     Refused(Refusal),

@@ -129,8 +129,8 @@ pub fn hash_held(
 {
     let j = 2 * (g.0 as u64);
     let k = j + 1;
-    if scheme == 4 {
-        return rekeyed_each(tables, a, j, b, k);
+    if scheme != 4 {
+        return hash_pair(tables, w, a, j, b, k);
     }
-    hash_pair(tables, w, a, j, b, k)
+    rekeyed_each(tables, a, j, b, k)
 }

@@ -42,7 +42,7 @@ pub fn ran(answer: &mut [u64; 4], done: Ran) -> u8
     }
 }
 
-// The answer of an evaluation: the calls of π in the first word.
+// The answer of an evaluation: the encryptions in the first word.
 pub fn evaluated(answer: &mut [u64; 4], e: Evaluated) -> u8
     ensures { λ r. ⌜ out r (now (answer .exit)) ≡ callsOut (evaluatedOf e) ⌝ }
 {

@@ -42,7 +42,7 @@ pub extern "C" fn weighhare_plain(
     ran(answer, done)
 }
 
-// Garble: material, zero tokens, one tokens; the material's length and the calls of π.
+// Garble: material, zero tokens, one tokens; the material's length and the encryptions.
 #[no_mangle]
 pub extern "C" fn weighhare_garble(
     circuit: &[u8],
@@ -79,7 +79,7 @@ pub extern "C" fn weighhare_encode(
     ran(answer, done)
 }
 
-// Evaluate: the tokens of all wires; the calls of π.
+// Evaluate: the tokens of all wires; the encryptions.
 #[no_mangle]
 pub extern "C" fn weighhare_evaluate(
     circuit: &[u8],

@@ -4,10 +4,10 @@ use Rattle.scheme.proofs.hash.hash_held.Statement.{statement}
 use Rattle.scheme.proofs.hash.hash_held.Tie as tie
 
 returns : tie.Need-returns
-returns c = by-rekeyed _ _ _ _ _ _ (search needs) (c .rekeyed-each .ensures)
+returns c = by-fixed _ _ _ _ _ _ (search needs) (c .hash-pair .ensures)
 
 returns-2 : tie.Need-returns-2
-returns-2 c = by-fixed _ _ _ _ _ _ (search needs) (c .hash-pair .ensures)
+returns-2 c = by-rekeyed _ _ _ _ _ _ (search needs) (c .rekeyed-each .ensures)
 
 pub hash-held-spec : {M : Type 1} → statement M
 hash-held-spec =
