@@ -1,4 +1,4 @@
-//! Blocks of 16 bytes: exclusive or, doubling and colour (01, AES and doubling; Tokens).
+//! Blocks of 16 bytes: exclusive or, doubling, σ and colour (01, AES and doubling; Tokens; 02, job 7).
 
 use std::ops::BitXor;
 
@@ -44,6 +44,17 @@ impl Block {
     /// 4A: twice doubled.
     pub fn double_twice(self) -> Block {
         self.double().double()
+    }
+
+    /// σ of the left and right 8-byte halves: (left ⊕ right, left) (02, job 7).
+    pub fn sigma(self) -> Block {
+        let (left, right) = self.0.split_at(BLOCK / 2);
+        let sums = left.iter().zip(right).map(|(l, r)| l ^ r);
+        let mut made = Block::ZERO;
+        for (byte, from) in made.0.iter_mut().zip(sums.chain(left.iter().copied())) {
+            *byte = from;
+        }
+        made
     }
 
     /// The colour of a token: the lowest bit of its last byte.

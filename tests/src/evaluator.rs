@@ -10,7 +10,7 @@ use crate::operations as op;
 use crate::random::Random;
 use crate::scheme::Scheme;
 
-/// The schemes.
+/// The schemes of 01: the stored files without `-rekeyed` in their name are made from this list.
 pub const SCHEMES: [Scheme; 3] = [Scheme::GaX, Scheme::GaXR, Scheme::HalfGates];
 
 /// All calls made here, of evaluate or of decode.
@@ -161,7 +161,7 @@ pub fn tampered(call: &Call) -> Vec<Call> {
     let record = (last - 9) / sizes.p;
     let mut calls: Vec<Call> = (0..9).map(|length| with_length(call, length, 12)).collect();
     calls.extend((0..2).map(|at| changed(call, at, material[at] ^ 1, 13)));
-    calls.extend([0, 4, 255].map(|byte| changed(call, 2, byte, 14)));
+    calls.extend([0, 5, 255].map(|byte| changed(call, 2, byte, 14)));
     calls.extend((3..9).map(|at| changed(call, at, material[at] ^ 1, 15)));
     let lengths = [9, last, length - 1, length + 1, length + record];
     calls.extend(lengths.map(|length| with_length(call, length, 16)));
@@ -180,12 +180,14 @@ pub fn tampered(call: &Call) -> Vec<Call> {
 pub fn around(call: &Call) -> Vec<Call> {
     let tokens = call.tokens.len();
     let room = call.lens[0];
+    // 01 refused 4. Beside tokens of a wrong length, which come first, stored cases have it still.
+    let unknown = if call.material[2] == 4 { 5 } else { 4 };
     let mut calls = vec![call.clone()];
     for length in [0, tokens - 1, tokens + 1] {
         let mut changed = call.clone();
         changed.tokens.resize(length, 0);
         calls.push(refused(changed.clone(), 11));
-        changed.material[2] = 4;
+        changed.material[2] = unknown;
         calls.push(refused(changed.clone(), 11));
         changed.lens[0] = room - 1;
         calls.push(refused(changed, 11));
@@ -194,7 +196,7 @@ pub fn around(call: &Call) -> Vec<Call> {
         let mut changed = call.clone();
         changed.lens[0] = length;
         calls.push(refused(changed.clone(), 19));
-        changed.material[2] = 4;
+        changed.material[2] = 5;
         calls.push(refused(changed, 14));
     }
     let mut longer = call.clone();

@@ -177,16 +177,18 @@ pub fn call(random: &mut Random, operation: Operation) -> Call {
     call_on(random, operation, &bytes)
 }
 
-/// A call of the operation that is not refused, on a circuit of all codes; of garble in any run.
+/// A call of the operation that is not refused, on a circuit of all codes, by any scheme; of garble in
+/// any run.
 pub fn any_call(random: &mut Random, operation: Operation) -> Call {
     let bytes = any_small_circuit(random);
     let mut call = call_on(random, operation, &bytes);
+    any_scheme(random, &mut call);
     add_run(random, &mut call);
     call
 }
 
-/// A call of the operation on an accepted circuit, not refused; buffers have some bytes to spare. Of
-/// garble it is in run 0.
+/// A call of the operation on an accepted circuit, not refused, by a scheme of 01; buffers have some
+/// bytes to spare. Of garble it is in run 0.
 pub fn call_on(random: &mut Random, operation: Operation, bytes: &[u8]) -> Call {
     let circuit = Circuit::read(bytes).expect("an accepted circuit");
     let Sizes { n, m, .. } = circuit.sizes();
@@ -235,11 +237,42 @@ fn add_circuit(call: &mut Call, circuit: &Circuit) {
 fn add_material(random: &mut Random, call: &mut Call, circuit: &Circuit, count: usize) {
     let scheme = random.one_of(&[Scheme::GaX, Scheme::GaXR, Scheme::HalfGates]);
     call.tokens = tokens(random, count);
-    call.material = if random.chance(50) {
+    call.material = any_material(random, circuit, scheme);
+}
+
+/// Material that garbling made or a stranger.
+fn any_material(random: &mut Random, circuit: &Circuit, scheme: Scheme) -> Vec<u8> {
+    if random.chance(50) {
         garbled(random, circuit, scheme)
     } else {
         stranger(random, circuit, scheme)
-    };
+    }
+}
+
+/// The sound call by scheme 4 (02, job 7), where its operation has a scheme: garble's argument, or the
+/// material. It is drawn apart from the other arguments: the stored cases of 01 and of 02's jobs 2 and 4
+/// have schemes 1 to 3.
+pub fn rekey(random: &mut Random, call: &mut Call) {
+    let before = room(call).expect("a sound call");
+    let circuit = call.read_circuit();
+    match (call.operation, circuit) {
+        (Operation::Garble, _) => call.scheme = Scheme::RekeyedHalfGates.byte(),
+        (Operation::Evaluate | Operation::EvaluateGates | Operation::Decode, Ok(circuit)) => {
+            call.material = any_material(random, &circuit, Scheme::RekeyedHalfGates);
+        }
+        _ => {}
+    }
+    let needed = room(call).expect("a sound call");
+    for ((len, before), needed) in call.lens.iter_mut().zip(before).zip(needed) {
+        *len = *len - before + needed;
+    }
+}
+
+/// A quarter of the sound calls are turned into such of scheme 4.
+pub fn any_scheme(random: &mut Random, call: &mut Call) {
+    if random.chance(25) {
+        rekey(random, call);
+    }
 }
 
 /// Pick's two lists, wire and bit.

@@ -3,10 +3,10 @@
 
 use crate::block::{Block, Colour, BLOCK};
 use crate::call::{Call, Operation};
+use crate::cipher::{Cipher, FIXED_KEY};
 use crate::circuit::{to_bytes, Gate};
 use crate::generate::{self, room};
 use crate::lines;
-use crate::pi::Pi;
 use crate::random::Random;
 use crate::token::Seed;
 
@@ -69,12 +69,12 @@ impl Rule {
 /// A chain over the blocks of the bytes, the last block padded with zeros: from block 0 on, each
 /// block is exclusive-ored in, and π taken.
 pub fn fingerprint(bytes: &[u8]) -> Block {
-    let mut pi = Pi::default();
+    let mut cipher = Cipher::default();
     let mut chain = Block::ZERO;
     for chunk in bytes.chunks(BLOCK) {
         let mut block = Block::ZERO;
         block.0[..chunk.len()].copy_from_slice(chunk);
-        chain = pi.permute(chain ^ block);
+        chain = cipher.encrypt(FIXED_KEY, chain ^ block);
     }
     chain
 }

@@ -1,5 +1,5 @@
-//! A second implementation of document 01 ("01" below) with jobs 2 and 4 of document 02 ("02"),
-//! written from the papers alone, and what the tests need around it: calls as values, a reader of
+//! A second implementation of document 01 ("01" below) with jobs 2, 4 and 7 of document 02
+//! ("02"), written from the papers alone, and what the tests need around it: calls as values, a reader of
 //! stored cases and a generator of new ones.
 
 #![forbid(unsafe_code)]
@@ -10,6 +10,7 @@ pub mod block;
 pub mod call;
 pub mod cases;
 pub mod chained;
+pub mod cipher;
 pub mod circuit;
 pub mod evaluator;
 pub mod generate;
@@ -21,10 +22,10 @@ pub mod listed;
 pub mod material;
 pub mod one_operand;
 pub mod operations;
-pub mod pi;
 pub mod program;
 pub mod random;
 pub mod refused;
+pub mod rekeyed;
 pub mod runs;
 pub mod scheme;
 pub mod token;

@@ -159,7 +159,7 @@ fn damaged_call(random: &mut Random, falling: &[u8]) -> Call {
         let mut call = sound(random);
         let met = |&number: &u8| damage::damage(random, &mut call, number);
         if falling.iter().all(met) && call.gates.len() == GATES {
-            return damage::refused_still(call);
+            return damage::refused_still(call, falling);
         }
     }
 }

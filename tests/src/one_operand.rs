@@ -13,7 +13,7 @@ use crate::random::Random;
 use crate::scheme::Scheme;
 
 /// Every code on two inputs, each gate an output.
-fn every_code() -> Vec<u8> {
+pub fn every_code() -> Vec<u8> {
     let gates: Vec<Gate> = (1..=14).map(|code| Gate { a: 1, b: 2, code }).collect();
     to_bytes(2, 14, &gates)
 }
@@ -37,7 +37,7 @@ fn alone() -> Vec<u8> {
 /// A NOT of an input, of a free gate and of a charged gate, each as the first and as the second
 /// operand; and gates on these wires, where two operands have the same tokens, or one has the other's
 /// exchanged.
-fn nots() -> Vec<u8> {
+pub fn nots() -> Vec<u8> {
     let gates = [
         // Wire 4, and from here one wire a line: NOT of an input.
         (1, 2, 3),
@@ -140,7 +140,7 @@ fn accepted(random: &mut Random, operation: Operation) -> Vec<Call> {
 }
 
 /// Seeds with each pair of colours of the zero tokens of inputs 1 and 2.
-fn seeds(random: &mut Random) -> [Vec<u8>; 4] {
+pub fn seeds(random: &mut Random) -> [Vec<u8>; 4] {
     let pairs = [[false, false], [false, true], [true, false], [true, true]];
     pairs.map(|colours| coloured_seed(random, colours.map(Colour)))
 }

@@ -13,7 +13,7 @@ use crate::token::Seed;
 pub struct Garbled {
     /// The material's length.
     pub length: u64,
-    /// The calls of π made.
+    /// The encryptions that the scheme made.
     pub calls: u64,
 }
 
@@ -148,7 +148,7 @@ pub fn encode(
     Ok(())
 }
 
-/// Evaluate: the tokens of all wires; returns the calls of π.
+/// Evaluate: the tokens of all wires; returns the encryptions made.
 pub fn evaluate(
     circuit: &[u8],
     tokens: &[u8],

@@ -11,7 +11,7 @@ use crate::random::Random;
 use crate::scheme::Scheme;
 
 /// Three inputs and every code once, on inputs and on gates of each kind; five outputs.
-fn every_code() -> Vec<u8> {
+pub fn every_code() -> Vec<u8> {
     let gates = [
         (1, 2, 8),
         (2, 3, 6),
@@ -31,14 +31,14 @@ fn every_code() -> Vec<u8> {
     to_bytes(3, 5, &gates.map(|(a, b, code)| Gate { a, b, code }))
 }
 
-/// Every run with each scheme.
+/// Every run with each scheme of 01.
 fn runs_and_schemes() -> impl Iterator<Item = (u64, Scheme)> {
     RUNS.into_iter()
         .flat_map(|run| SCHEMES.map(|scheme| (run, scheme)))
 }
 
 /// A call of garble that is not refused, in a run and by a scheme, in buffers with no byte to spare.
-fn garbling(random: &mut Random, bytes: &[u8], run: u64, scheme: Scheme) -> Call {
+pub fn garbling(random: &mut Random, bytes: &[u8], run: u64, scheme: Scheme) -> Call {
     let mut call = generate::call_on(random, Operation::Garble, bytes);
     (call.run, call.scheme) = (run, scheme.byte());
     call.lens = generate::room(&call).expect("an accepted circuit");

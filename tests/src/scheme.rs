@@ -1,9 +1,9 @@
-//! The three schemes: garbling one gate and evaluating one gate (01, Tokens; Schemes 1 to 3; 02,
-//! job 2).
+//! The four schemes: garbling one gate and evaluating one gate (01, Tokens; Schemes 1 to 3; 02, jobs 2
+//! and 7).
 
 use crate::block::{Block, Colour};
+use crate::cipher::{Cipher, FIXED_KEY};
 use crate::circuit::{Gate, Kind, Truth, TRUTH_PAIRS};
-use crate::pi::Pi;
 use crate::token::{token, Seed};
 
 /// A scheme.
@@ -15,15 +15,26 @@ pub enum Scheme {
     GaXR,
     /// Scheme 3.
     HalfGates,
+    /// Scheme 4: scheme 3's steps and rows, and a hash whose key changes with each tweak.
+    RekeyedHalfGates,
 }
 
 impl Scheme {
+    /// All schemes.
+    pub const ALL: [Scheme; 4] = [
+        Scheme::GaX,
+        Scheme::GaXR,
+        Scheme::HalfGates,
+        Scheme::RekeyedHalfGates,
+    ];
+
     /// The scheme of a scheme byte, if there is one.
     pub fn from_byte(byte: u8) -> Option<Scheme> {
         match byte {
             1 => Some(Scheme::GaX),
             2 => Some(Scheme::GaXR),
             3 => Some(Scheme::HalfGates),
+            4 => Some(Scheme::RekeyedHalfGates),
             _ => None,
         }
     }
@@ -34,6 +45,7 @@ impl Scheme {
             Scheme::GaX => 1,
             Scheme::GaXR => 2,
             Scheme::HalfGates => 3,
+            Scheme::RekeyedHalfGates => 4,
         }
     }
 
@@ -42,7 +54,7 @@ impl Scheme {
         match self {
             Scheme::GaX => 4,
             Scheme::GaXR => 3,
-            Scheme::HalfGates => 2,
+            Scheme::HalfGates | Scheme::RekeyedHalfGates => 2,
         }
     }
 }
@@ -53,14 +65,22 @@ fn row_of(c: Colour, d: Colour) -> usize {
 }
 
 /// E(A,B,T,Z) = π(K) ⊕ K ⊕ Z, K = 2A ⊕ 4B ⊕ T (01, Scheme 1).
-fn encrypt(pi: &mut Pi, a: Block, b: Block, tweak: usize, z: Block) -> Block {
+fn encrypt(cipher: &mut Cipher, a: Block, b: Block, tweak: usize, z: Block) -> Block {
     let k = a.double() ^ b.double_twice() ^ Block::number(tweak);
-    pi.hash(k) ^ z
+    cipher.hash(FIXED_KEY, k) ^ z
 }
 
+/// H of a half-gates scheme.
+type Hash = fn(&mut Cipher, Block, usize) -> Block;
+
 /// H(x,i) = π(2x ⊕ i) ⊕ 2x ⊕ i (01, Scheme 3).
-fn half_gate_hash(pi: &mut Pi, x: Block, i: usize) -> Block {
-    pi.hash(x.double() ^ Block::number(i))
+fn fixed_key_hash(cipher: &mut Cipher, x: Block, i: usize) -> Block {
+    cipher.hash(FIXED_KEY, x.double() ^ Block::number(i))
+}
+
+/// H(x,i) = AES under key i of σ(x), ⊕ σ(x) (02, job 7). Key i is the number as a block.
+fn rekeyed_hash(cipher: &mut Cipher, x: Block, i: usize) -> Block {
+    cipher.hash(Block::number(i), x.sigma())
 }
 
 /// α, β and γ of a charged code (01, Scheme 3).
@@ -112,17 +132,17 @@ pub struct Garbler {
     scheme: Scheme,
     seed: Seed,
     offset: Block,
-    pi: Pi,
+    cipher: Cipher,
 }
 
 impl Garbler {
-    /// A garbler that has made no call of π yet.
+    /// A garbler that has made no encryption yet.
     pub fn new(scheme: Scheme, seed: Seed) -> Garbler {
         Garbler {
             scheme,
             offset: seed.offset(),
             seed,
-            pi: Pi::default(),
+            cipher: Cipher::default(),
         }
     }
 
@@ -136,9 +156,9 @@ impl Garbler {
         token(zero, self.offset, value)
     }
 
-    /// The calls of π made so far.
+    /// The encryptions made so far, those under the seed not counted.
     pub fn calls(&self) -> u64 {
-        self.pi.calls()
+        self.cipher.calls()
     }
 
     /// Garbles the gate on wire g, whose operands have the zero tokens xa and xb.
@@ -151,7 +171,8 @@ impl Garbler {
         match self.scheme {
             Scheme::GaX => self.gax(g, self.pairs(gate, xa, xb)),
             Scheme::GaXR => self.gaxr(g, self.pairs(gate, xa, xb)),
-            Scheme::HalfGates => self.half_gates(g, gate, xa, xb),
+            Scheme::HalfGates => self.half_gates(fixed_key_hash, g, gate, xa, xb),
+            Scheme::RekeyedHalfGates => self.half_gates(rekeyed_hash, g, gate, xa, xb),
         }
     }
 
@@ -187,7 +208,7 @@ impl Garbler {
     /// The row of that number: E(A,B,4g+row, the gate's token for its value).
     fn row(&mut self, g: usize, row: usize, pair: Pair, zero: Block) -> Block {
         let z = self.token(zero, pair.value);
-        encrypt(&mut self.pi, pair.a, pair.b, 4 * g + row, z)
+        encrypt(&mut self.cipher, pair.a, pair.b, 4 * g + row, z)
     }
 
     /// Scheme 1: X from the seed, four rows.
@@ -201,7 +222,7 @@ impl Garbler {
     /// Scheme 2: X from the pair of colours 0,0, then rows 1 to 3.
     fn gaxr(&mut self, g: usize, pairs: [Pair; 4]) -> GarbledGate {
         let first = pairs[0];
-        let made = encrypt(&mut self.pi, first.a, first.b, 4 * g, Block::ZERO);
+        let made = encrypt(&mut self.cipher, first.a, first.b, 4 * g, Block::ZERO);
         // `made` is the token for the pair's value, so X is that ⊕ R exactly if the value is 1.
         let zero = self.token(made, first.value);
         let rows = (1..4).map(|row| self.row(g, row, pairs[row], zero));
@@ -209,18 +230,25 @@ impl Garbler {
         GarbledGate { zero, rows }
     }
 
-    /// Scheme 3: rows G and E.
-    fn half_gates(&mut self, g: usize, gate: Gate, xa: Block, xb: Block) -> GarbledGate {
+    /// Schemes 3 and 4, which differ in H alone: rows G and E.
+    fn half_gates(
+        &mut self,
+        hash: Hash,
+        g: usize,
+        gate: Gate,
+        xa: Block,
+        xb: Block,
+    ) -> GarbledGate {
         let bits = half_gate_bits(gate).expect("a charged code has a pair of its own");
         let r = self.offset;
         let (a, b) = (xa ^ r.times(bits.alpha), xb ^ r.times(bits.beta));
         let (Colour(s), Colour(t)) = (a.colour(), b.colour());
         let (j, k) = (2 * g, 2 * g + 1);
-        let pi = &mut self.pi;
-        let hash_a = half_gate_hash(pi, a, j);
-        let hash_b = half_gate_hash(pi, b, k);
-        let row_g = hash_a ^ half_gate_hash(pi, a ^ r, j) ^ r.times(t);
-        let row_e = hash_b ^ half_gate_hash(pi, b ^ r, k) ^ a;
+        let cipher = &mut self.cipher;
+        let (hash_a, other_a) = (hash(cipher, a, j), hash(cipher, a ^ r, j));
+        let (hash_b, other_b) = (hash(cipher, b, k), hash(cipher, b ^ r, k));
+        let row_g = hash_a ^ other_a ^ r.times(t);
+        let row_e = hash_b ^ other_b ^ a;
         let halves = hash_a ^ row_g.times(s) ^ hash_b ^ (row_e ^ a).times(t);
         GarbledGate {
             zero: halves ^ r.times(bits.gamma),
@@ -233,19 +261,19 @@ impl Garbler {
 #[derive(Clone, Debug)]
 pub struct Evaluator {
     scheme: Scheme,
-    pi: Pi,
+    cipher: Cipher,
 }
 
 impl Evaluator {
-    /// An evaluator that has made no call of π yet.
+    /// An evaluator that has made no encryption yet.
     pub fn new(scheme: Scheme) -> Evaluator {
-        let pi = Pi::default();
-        Evaluator { scheme, pi }
+        let cipher = Cipher::default();
+        Evaluator { scheme, cipher }
     }
 
-    /// The calls of π made so far.
+    /// The encryptions made so far.
     pub fn calls(&self) -> u64 {
-        self.pi.calls()
+        self.cipher.calls()
     }
 
     /// The token of a free gate, from the operand tokens held: R is not known here, so 3 and 5 pass on
@@ -264,16 +292,21 @@ impl Evaluator {
         let (c, d) = (a.colour(), b.colour());
         let row = row_of(c, d);
         match self.scheme {
-            Scheme::GaX => encrypt(&mut self.pi, a, b, 4 * g + row, rows[row]),
+            Scheme::GaX => encrypt(&mut self.cipher, a, b, 4 * g + row, rows[row]),
             Scheme::GaXR => {
                 let stored = if row == 0 { Block::ZERO } else { rows[row - 1] };
-                encrypt(&mut self.pi, a, b, 4 * g + row, stored)
+                encrypt(&mut self.cipher, a, b, 4 * g + row, stored)
             }
-            Scheme::HalfGates => {
-                let hash_a = half_gate_hash(&mut self.pi, a, 2 * g);
-                let hash_b = half_gate_hash(&mut self.pi, b, 2 * g + 1);
-                hash_a ^ rows[0].times(c.0) ^ hash_b ^ (rows[1] ^ a).times(d.0)
-            }
+            Scheme::HalfGates => self.half_gates(fixed_key_hash, g, rows, a, b),
+            Scheme::RekeyedHalfGates => self.half_gates(rekeyed_hash, g, rows, a, b),
         }
+    }
+
+    /// Schemes 3 and 4: H(A,j) ⊕ sG ⊕ H(B,k) ⊕ t(E⊕A).
+    fn half_gates(&mut self, hash: Hash, g: usize, rows: &[Block], a: Block, b: Block) -> Block {
+        let (Colour(s), Colour(t)) = (a.colour(), b.colour());
+        let hash_a = hash(&mut self.cipher, a, 2 * g);
+        let hash_b = hash(&mut self.cipher, b, 2 * g + 1);
+        hash_a ^ rows[0].times(s) ^ hash_b ^ (rows[1] ^ a).times(t)
     }
 }

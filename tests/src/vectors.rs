@@ -13,7 +13,9 @@ use crate::lines;
 use crate::listed;
 use crate::one_operand;
 use crate::random::Random;
+use crate::rekeyed;
 use crate::runs;
+use crate::scheme::Scheme;
 
 /// A file of cases, a line each.
 #[derive(Clone, Debug)]
@@ -65,6 +67,13 @@ const ONE_OPERAND: [(&str, Operation); 5] = [
     ("decode-one-operand", Operation::Decode),
 ];
 
+/// The files of new cases of scheme 4.
+const REKEYED: [(&str, Operation); 3] = [
+    ("evaluate-rekeyed", Operation::Evaluate),
+    ("evaluate-gates-rekeyed", Operation::EvaluateGates),
+    ("decode-rekeyed", Operation::Decode),
+];
+
 /// All files made here.
 pub fn files() -> Vec<File> {
     let mut files = Vec::new();
@@ -85,6 +94,13 @@ pub fn files() -> Vec<File> {
     add("garble-large", large_cases());
     add("garble-runs", runs::garblings());
     add("chain-runs", runs::chains());
+    for (name, operation) in REKEYED {
+        add(name, cases_of(&rekeyed::calls(operation)));
+    }
+    add("chain-rekeyed", rekeyed::chains());
+    add("garble-rekeyed", rekeyed::garblings());
+    add("garble-large-rekeyed", large_rekeyed());
+    add("sigma", rekeyed::sigmas());
     files
 }
 
@@ -164,7 +180,7 @@ const LARGE: [(u16, u16, u16, u16); 14] = [
     (2, 65_533, 65_533, 4_096),
 ];
 
-/// Large garblings by each scheme; and, for each pair of colours of the first two inputs' zero
+/// Large garblings by each scheme of 01; and, for each pair of colours of the first two inputs' zero
 /// tokens, a garbling that has every code of 01.
 fn large_cases() -> String {
     let mut random = Random::new(65_535);
@@ -180,6 +196,28 @@ fn large_cases() -> String {
             let rule = rule(&mut random, sizes);
             text += &large::case(rule, seed, scheme);
         }
+    }
+    text
+}
+
+/// n, m, q and the period of large garblings by scheme 4: charged gates on wires 255 and 256; on 32,767 and
+/// 32,768, where the tweak 2g passes 16 bits; on 65,535, the last wire that there may be; and few among
+/// free ones.
+const LARGE_REKEYED: [(u16, u16, u16, u16); 4] = [
+    (250, 20, 20, 1),
+    (4_096, 4_096, 29_000, 1),
+    (2, 65_533, 65_533, 3),
+    (300, 1, 700, 7),
+];
+
+/// Large garblings by scheme 4.
+fn large_rekeyed() -> String {
+    let mut random = Random::new(7_007);
+    let mut text = String::new();
+    for sizes in LARGE_REKEYED {
+        let seed = generate::seed(&mut random);
+        let rule = rule(&mut random, sizes);
+        text += &large::case(rule, seed, Scheme::RekeyedHalfGates.byte());
     }
     text
 }

@@ -1,5 +1,5 @@
-//! Every stored case of a third reading of 01, of 01 with 02's job 2, and of 01 with 02's jobs 2 and 4:
-//! answers and whole buffers.
+//! Every stored case of a third reading of 01, of 01 with 02's job 2, with its jobs 2 and 4, and with its
+//! jobs 2, 4 and 7: answers and whole buffers.
 
 use std::collections::BTreeMap;
 
@@ -74,4 +74,9 @@ fn all_cases_with_one_operand_agree() {
 #[test]
 fn all_cases_with_runs_agree() {
     compare_all(include_str!("../data/job04.jsonl"), AMENDED);
+}
+
+#[test]
+fn all_cases_with_scheme_4_agree() {
+    compare_all(include_str!("../data/job07.jsonl"), AMENDED);
 }

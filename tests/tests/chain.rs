@@ -1,4 +1,4 @@
-//! The chain garble, encode, evaluate, decode of demand 3, on one circuit (01, Operations; 02, job 4).
+//! The chain garble, encode, evaluate, decode of demand 3, on one circuit (01, Operations; 02, jobs 4 and 7).
 
 use std::collections::BTreeSet;
 
@@ -11,7 +11,7 @@ use second::random::Random;
 use second::scheme::Scheme;
 use second::token::Seed;
 
-const SCHEMES: [Scheme; 3] = [Scheme::GaX, Scheme::GaXR, Scheme::HalfGates];
+const SCHEMES: [Scheme; 4] = Scheme::ALL;
 
 /// The codes that are not refused.
 const CODES: [u8; 14] = [1, 2, 3, 4, 5, 6, 7, 8, 9, 10, 11, 12, 13, 14];
@@ -23,12 +23,12 @@ struct Chain {
     decoded: Vec<u8>,
 }
 
-/// The rows of a charged gate, and the calls of π that evaluate makes for it.
+/// The rows of a charged gate, and the encryptions that evaluate makes for it.
 fn rows_and_calls(scheme: Scheme) -> (usize, usize) {
     match scheme {
         Scheme::GaX => (4, 1),
         Scheme::GaXR => (3, 1),
-        Scheme::HalfGates => (2, 2),
+        Scheme::HalfGates | Scheme::RekeyedHalfGates => (2, 2),
     }
 }
 

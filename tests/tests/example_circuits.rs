@@ -81,7 +81,7 @@ fn every_price_and_ceiling() {
 
 /// The bit that the archive's garble, encode, evaluate and decode give.
 fn garbled_bit(circuit: &[u8], wires: usize, seed: &[u8], scheme: u8, values: Vec<u8>) -> u8 {
-    let length = 12 + 8 * (4 + 16 * (5 - usize::from(scheme)));
+    let length = 12 + 8 * (4 + 16 * [4, 3, 2, 2][usize::from(scheme) - 1]);
     let mut garble = call(Operation::Garble, circuit, &[length, 16 * wires, 16 * 16]);
     (garble.seed, garble.scheme) = (seed.to_vec(), scheme);
     let [material, zeros, ones] = by_archive(&garble).try_into().expect("three buffers");
@@ -110,7 +110,7 @@ fn garbled_by_each_scheme() {
     let pairs: Vec<(u8, u8)> = pairs.into_iter().chain(others).collect();
     for (name, wires, holds) in COMPARATORS {
         let circuit = example(name);
-        for (scheme, &(price, ceiling)) in (1..=3).flat_map(|s| pairs.iter().map(move |p| (s, p))) {
+        for (scheme, &(price, ceiling)) in (1..=4).flat_map(|s| pairs.iter().map(move |p| (s, p))) {
             let seed = generate::seed(&mut random);
             let bit = garbled_bit(&circuit, wires, &seed, scheme, values(price, ceiling));
             let due = u8::from(holds(&price, &ceiling));

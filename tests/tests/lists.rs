@@ -8,8 +8,8 @@ use second::interface;
 use second::lines;
 
 /// The files, each with its name and how many cases it has: of the third reading of 01, and of the
-/// second implementation, with 01's codes and with gates that use one operand.
-const FILES: [(&str, &str, usize); 3] = [
+/// second implementation, with 01's codes, with gates that use one operand, and of scheme 4.
+const FILES: [(&str, &str, usize); 4] = [
     ("evaluate-gates", include_str!("../data/evaluate-gates"), 4),
     (
         "evaluate-gates-generated",
@@ -20,6 +20,11 @@ const FILES: [(&str, &str, usize); 3] = [
         "evaluate-gates-one-operand",
         include_str!("../data/evaluate-gates-one-operand"),
         198,
+    ),
+    (
+        "evaluate-gates-rekeyed",
+        include_str!("../data/evaluate-gates-rekeyed"),
+        122,
     ),
 ];
 

@@ -77,7 +77,7 @@ fn garbled(circuit: &[u8], scheme: u8, material: &mut [u8; 12]) -> ([Block; 3], 
 /// 12 and 10 pass on the token of a and of b, 3 and 5 the same with the zero token ⊕ R.
 #[test]
 fn which_zero_token_a_gate_of_one_operand_has() {
-    for scheme in 1..=3 {
+    for scheme in 1..=4 {
         for (code, operand, negates) in CODES {
             let mut material = [0; 12];
             let (zeros, offset) = garbled(&one_gate(1, 2, code), scheme, &mut material);
@@ -94,7 +94,7 @@ fn which_zero_token_a_gate_of_one_operand_has() {
 /// The evaluator hands on the token that it holds of the one operand, a NOT's too.
 #[test]
 fn which_token_is_handed_on() {
-    for scheme in 1..=3 {
+    for scheme in 1..=4 {
         for (code, operand, _) in CODES {
             let circuit = one_gate(1, 2, code);
             let mut material = [0; 12];

@@ -83,10 +83,12 @@ fn stored_cases() {
     let base = include_str!("../data/base.jsonl");
     let job02 = include_str!("../data/job02.jsonl");
     let job04 = include_str!("../data/job04.jsonl");
+    let job07 = include_str!("../data/job07.jsonl");
     for (name, text, due) in [
         ("base", base, 31),
         ("job02", job02, 18),
         ("job04", job04, 18),
+        ("job07", job07, 18),
     ] {
         let mut count = 0;
         for case in &cases::read(text).expect("readable cases") {

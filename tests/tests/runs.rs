@@ -23,7 +23,7 @@ const SIDES: [(&str, Side); 2] = [("second", interface::expected), ("archive", b
 
 /// Both sides, with each scheme.
 fn sides_and_schemes() -> impl Iterator<Item = (&'static str, Side, u8)> {
-    let with_schemes = |(name, side)| [1, 2, 3].map(|scheme| (name, side, scheme));
+    let with_schemes = |(name, side)| [1, 2, 3, 4].map(|scheme| (name, side, scheme));
     SIDES.into_iter().flat_map(with_schemes)
 }
 

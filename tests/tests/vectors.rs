@@ -18,11 +18,15 @@ const BY_HAND: [&str; 6] = [
 ];
 
 /// The functions that encipher under any key: FIPS 197's vectors run through each.
-const ENCRYPTIONS: [&str; 4] = [
+const ENCRYPTIONS: [&str; 8] = [
     " by encrypt",
     " by encrypt_fast",
     " by encrypt_pair, first block",
     " by encrypt_pair, second block",
+    " by encrypt_pair_under, first block",
+    " by encrypt_pair_under, second block",
+    " by encrypt_each_under, first block",
+    " by encrypt_each_under, second block",
 ];
 
 /// What makes the schedule of π's key, and what holds it.

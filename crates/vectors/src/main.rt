@@ -9,6 +9,8 @@ use libc::STDOUT_FILENO;
 
 mod agree;
 mod chained;
+mod ciphers;
+mod schedules;
 mod single;
 mod text;
 
@@ -25,17 +27,38 @@ fn run_file(group: u8, path: &[u8]) {
     run_by(group, path, b"");
 }
 
-// Outside vectors, and 01's examples. What enciphers stands in more than one form, and each gets the vectors of FIPS 197.
+// Outside vectors, 01's examples and σ. What enciphers stands in more than one form, and each gets the vectors of FIPS 197.
 fn run_outside() {
     run_by(1, b"fips197-encryption", b" by encrypt");
     run_by(14, b"fips197-encryption", b" by encrypt_fast");
     run_by(15, b"fips197-encryption", b" by encrypt_pair, first block");
     run_by(16, b"fips197-encryption", b" by encrypt_pair, second block");
+    run_by(
+        19,
+        b"fips197-encryption",
+        b" by encrypt_pair_under, first block",
+    );
+    run_by(
+        20,
+        b"fips197-encryption",
+        b" by encrypt_pair_under, second block",
+    );
+    run_by(
+        21,
+        b"fips197-encryption",
+        b" by encrypt_each_under, first block",
+    );
+    run_by(
+        22,
+        b"fips197-encryption",
+        b" by encrypt_each_under, second block",
+    );
     run_file(2, b"fips197-key-expansion");
     run_file(17, b"fips197-words");
     run_by(2, b"fips197-fixed-key", b" by expand_key");
     run_by(18, b"fips197-fixed-key", b" by fixed_schedule");
     run_file(3, b"doubling");
+    run_file(23, b"sigma");
     run_file(4, b"examples");
 }
 
@@ -71,10 +94,18 @@ fn run_runs() {
     run_file(12, b"chain-runs");
 }
 
+// Cases of the second implementation by scheme 4 (02, job 7).
+fn run_rekeyed() {
+    run_file(10, b"evaluate-rekeyed");
+    run_file(11, b"decode-rekeyed");
+    run_file(12, b"chain-rekeyed");
+}
+
 fn main() {
     run_outside();
     run_stored();
     run_generated();
     run_one_operand();
     run_runs();
+    run_rekeyed();
 }

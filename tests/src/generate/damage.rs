@@ -1,6 +1,6 @@
 //! Calls damaged so that a chosen condition holds (01, Turned down, by number).
 
-use super::{add_run, call, room, use_one_operand, CHARGED, FREE, ONE_OPERAND};
+use super::{add_run, any_scheme, call, room, use_one_operand, CHARGED, FREE, ONE_OPERAND};
 use crate::block::BLOCK;
 use crate::call::{Call, Operation};
 use crate::circuit::Gate;
@@ -8,8 +8,31 @@ use crate::random::Random;
 
 /// A call of the operation with every condition of `numbers` met at once. They are brought about in
 /// falling number, so that a later one does not undo the condition that must be given; of a number
-/// named twice, the second damage may undo the first. Sound gates have 01's codes.
+/// named twice, the second damage may undo the first. Sound gates have 01's codes, and a sound scheme is
+/// one of 01's.
 pub fn damaged_call(random: &mut Random, operation: Operation, numbers: &[u8]) -> Call {
+    damaged_from(random, operation, numbers, call)
+}
+
+/// The same with sound gates of all codes, by any scheme, and of garble in any run.
+pub fn any_damaged_call(random: &mut Random, operation: Operation, numbers: &[u8]) -> Call {
+    let mut damaged = damaged_from(random, operation, numbers, |random, operation| {
+        let mut call = call(random, operation);
+        any_scheme(random, &mut call);
+        call
+    });
+    use_one_operand(random, codes(&mut damaged));
+    add_run(random, &mut damaged);
+    damaged
+}
+
+/// Damages sound calls, which `sound` makes, until every condition of `numbers` is met.
+fn damaged_from(
+    random: &mut Random,
+    operation: Operation,
+    numbers: &[u8],
+    sound: impl Fn(&mut Random, Operation) -> Call,
+) -> Call {
     for number in numbers {
         let has = operation.refusals().contains(number);
         assert!(has, "{operation:?} has no argument for refusal {number}");
@@ -17,25 +40,27 @@ pub fn damaged_call(random: &mut Random, operation: Operation, numbers: &[u8]) -
     let mut falling = numbers.to_vec();
     falling.sort_unstable_by(|a, b| b.cmp(a));
     loop {
-        let mut call = call(random, operation);
+        let mut call = sound(random, operation);
         let met = |&number: &u8| damage(random, &mut call, number);
         if falling.iter().all(met) {
-            return refused_still(call);
+            return refused_still(call, numbers);
         }
     }
 }
 
-/// The same with sound gates of all codes, and of garble in any run.
-pub fn any_damaged_call(random: &mut Random, operation: Operation, numbers: &[u8]) -> Call {
-    let mut call = damaged_call(random, operation, numbers);
-    use_one_operand(random, codes(&mut call));
-    add_run(random, &mut call);
-    call
+/// A call damaged by what 01 refuses, for the conditions of `numbers`. Where its refusal was a code that
+/// is free now (02, job 2), 16 is added to that code, and where it was scheme 4 (02, job 7), 5 takes its
+/// place: then it is refused as it was.
+pub fn refused_still(call: Call, numbers: &[u8]) -> Call {
+    let call = code_refused_still(call);
+    match numbers.contains(&14) {
+        true => scheme_refused_still(call),
+        false => call,
+    }
 }
 
-/// A call drawn by 01's codes. Where its refusal was a code that is free now (02, job 2), 16 is added
-/// to that code: then it is refused as it was.
-pub fn refused_still(call: Call) -> Call {
+/// The same for codes.
+fn code_refused_still(call: Call) -> Call {
     let mut raised = call.clone();
     for code in codes(&mut raised) {
         *code += if ONE_OPERAND.contains(code) { 16 } else { 0 };
@@ -44,6 +69,28 @@ pub fn refused_still(call: Call) -> Call {
     match refused.is_some_and(|refused| refused.number == 7) {
         true => raised,
         false => call,
+    }
+}
+
+/// The same for the scheme. A call that is refused for what comes before it stays as it was drawn.
+fn scheme_refused_still(call: Call) -> Call {
+    let mut raised = call.clone();
+    match scheme_byte(&mut raised) {
+        Some(scheme @ 4) => *scheme = 5,
+        _ => return call,
+    }
+    let refused = raised.run().answer.err();
+    match refused.is_some_and(|refused| refused.number == 14) {
+        true => raised,
+        false => call,
+    }
+}
+
+/// The scheme byte: garble's argument, or the material's.
+fn scheme_byte(call: &mut Call) -> Option<&mut u8> {
+    match call.operation {
+        Operation::Garble => Some(&mut call.scheme),
+        _ => call.material.get_mut(2),
     }
 }
 
@@ -250,13 +297,9 @@ fn spoil_token_list(random: &mut Random, call: &mut Call) -> bool {
 }
 
 fn spoil_scheme(random: &mut Random, call: &mut Call) -> bool {
+    // By 01, which refuses 4 too: `refused_still` does the rest.
     let bad = random.one_of(&[0, 4, 5, 128, 255]);
-    if call.operation == Operation::Garble {
-        call.scheme = bad;
-        return true;
-    }
-    let byte = call.material.get_mut(2);
-    byte.map(|byte| *byte = bad).is_some()
+    scheme_byte(call).map(|byte| *byte = bad).is_some()
 }
 
 /// Another length than the circuit and the scheme ask for: by the bytes, or by the scheme.
@@ -264,7 +307,8 @@ fn spoil_material_length(random: &mut Random, call: &mut Call) -> bool {
     let circuit = call.read_circuit();
     let charged = circuit.is_ok_and(|circuit| circuit.sizes().p > 0);
     match call.material.get_mut(2) {
-        Some(scheme @ 1..=3) if charged && random.chance(25) => {
+        // To one of another number of rows: 3 and 4 have as many.
+        Some(scheme @ 1..=4) if charged && random.chance(25) => {
             *scheme = *scheme % 3 + 1;
             true
         }

@@ -1,7 +1,7 @@
 //! The edges of the refusals: from sound calls on small circuits, every argument is moved across
 //! each of its limits, one step at a time. Which refusal is due is not known here.
 
-use super::{add_run, call_on, circuit, room, with_one_operand};
+use super::{add_run, call_on, circuit, rekey, room, with_one_operand};
 use crate::block::BLOCK;
 use crate::call::{Call, Operation};
 use crate::circuit::Gate;
@@ -28,7 +28,7 @@ pub fn edges(random: &mut Random, operation: Operation) -> Vec<Edge> {
     for (n, q, charged) in [(2, 1, 100), (3, 2, 0), (5, 9, 60)] {
         let bytes = circuit(random, n, q, charged);
         let bytes = with_one_operand(random, bytes);
-        for scheme in 1..=3 {
+        for scheme in 1..=4 {
             let base = with_scheme(random, operation, &bytes, scheme);
             found.extend(around(base));
         }
@@ -43,6 +43,9 @@ pub fn edges(random: &mut Random, operation: Operation) -> Vec<Edge> {
 fn with_scheme(random: &mut Random, operation: Operation, bytes: &[u8], scheme: u8) -> Call {
     loop {
         let mut call = call_on(random, operation, bytes);
+        if scheme == 4 {
+            rekey(random, &mut call);
+        }
         let of_call = match operation {
             Operation::Garble => call.scheme,
             Operation::Evaluate | Operation::EvaluateGates | Operation::Decode => call.material[2],

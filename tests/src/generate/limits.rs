@@ -2,10 +2,11 @@
 //! Faults are at the far end, where a place needs the most bits.
 
 use super::edges::Edge;
-use super::{add_run, call_on, circuit, room, with_one_operand};
+use super::{add_run, any_scheme, call_on, circuit, room, with_one_operand};
 use crate::block::BLOCK;
 use crate::call::{Call, Operation};
 use crate::random::Random;
+use crate::scheme::Scheme;
 
 /// n, q and the charged gates in a hundred: both ends of n with both ends of q, and n+q = 65,535.
 const SHAPES: [(u16, u16, usize); 8] = [
@@ -39,6 +40,7 @@ pub fn calls(random: &mut Random, operation: Operation, shape: usize) -> Option<
     let m = if shape.is_multiple_of(2) { q } else { 1 };
     bytes[4..6].copy_from_slice(&m.to_be_bytes());
     let mut base = call_on(random, operation, &bytes);
+    any_scheme(random, &mut base);
     base.lens = room(&base).expect("a sound call");
     let mut calls = Calls {
         base,
@@ -138,7 +140,8 @@ impl Calls {
         self.add("material a byte longer", |call| call.material.push(0));
         let sizes = self.base.read_circuit().expect("a sound call").sizes();
         if sizes.p > 0 {
-            let rows = 5 - usize::from(self.base.material[2]);
+            let scheme = Scheme::from_byte(self.base.material[2]);
+            let rows = scheme.expect("a sound call").rows();
             let record = last + 1 - 2 - sizes.m - (4 + BLOCK * rows);
             self.add("last row record", |call| call.material[record + 3] ^= 1);
         }

@@ -1,4 +1,4 @@
-//! How often each refusal of each operation was met, which codes of gates, and which runs.
+//! How often each refusal of each operation was met, which codes of gates, which runs and which schemes.
 
 use std::collections::{BTreeMap, BTreeSet};
 
@@ -16,6 +16,30 @@ pub struct Coverage {
     refused: BTreeSet<u8>,
     /// The calls of garble that gave each number, by the kind of their run.
     runs: BTreeMap<(&'static str, u8), u64>,
+    /// The calls of each operation that has a scheme, by this and by the number given. Those not refused
+    /// count where a gate is charged: else the scheme has no effect.
+    schemes: BTreeMap<(Operation, u8, u8), u64>,
+    /// The schemes at refusal 14.
+    refused_schemes: BTreeSet<u64>,
+}
+
+/// The operations that have a scheme.
+const WITH_SCHEME: [Operation; 4] = [
+    Operation::Garble,
+    Operation::Evaluate,
+    Operation::EvaluateGates,
+    Operation::Decode,
+];
+
+/// The codes that have rows.
+const CHARGED: [u8; 8] = [1, 2, 4, 7, 8, 11, 13, 14];
+
+/// The scheme of a call: garble's argument, or the material's byte.
+fn scheme(call: &Call) -> Option<u8> {
+    match call.operation {
+        Operation::Garble => Some(call.scheme),
+        _ => call.material.get(2).copied(),
+    }
 }
 
 /// The kinds of run numbers.
@@ -55,10 +79,23 @@ impl Coverage {
         if answer.number == 0 {
             self.taken.extend(codes(call).0);
         }
+        self.count_scheme(call, answer);
         if answer.number == 7 {
             let (codes, first) = codes(call);
             let index = answer.words[0] - first;
             self.refused.insert(codes[index as usize]);
+        }
+    }
+
+    /// Counts the scheme of a call that was answered so.
+    fn count_scheme(&mut self, call: &Call, answer: &Answer) {
+        if answer.number == 14 {
+            self.refused_schemes.insert(answer.words[0]);
+        }
+        let charged = || codes(call).0.iter().any(|code| CHARGED.contains(code));
+        if let Some(scheme) = scheme(call).filter(|_| answer.number > 0 || charged()) {
+            let of_scheme = (call.operation, scheme, answer.number);
+            *self.schemes.entry(of_scheme).or_insert(0) += 1;
         }
     }
 
@@ -102,6 +139,40 @@ impl Coverage {
                     missing.push(format!("garble, run {kind}, never gave {number}"));
                 }
             }
+        }
+        missing
+    }
+
+    /// Each operation that has a scheme was done by schemes 1 to 4 and gave every refusal that comes after
+    /// 14 by each of them, and all others were refused (01, Turned down; 02, job 7): prints how often it was
+    /// done, and gives what was not met.
+    pub fn report_schemes(&self) -> Vec<String> {
+        let mut missing = Vec::new();
+        for operation in WITH_SCHEME {
+            let name = interface::name(operation);
+            let met = |scheme, number| {
+                let met = self.schemes.get(&(operation, scheme, number));
+                met.copied().unwrap_or(0)
+            };
+            let done = [1, 2, 3, 4].map(|scheme| met(scheme, 0));
+            println!("coverage: {name}, schemes 1 to 4: done {done:?}");
+            let after = operation.refusals().iter().filter(|&&number| number > 14);
+            for (scheme, &number) in [0]
+                .iter()
+                .chain(after)
+                .flat_map(|n| (1..=4).map(move |s| (s, n)))
+            {
+                if met(scheme, number) == 0 {
+                    missing.push(format!("{name}, scheme {scheme}, never gave {number}"));
+                }
+            }
+        }
+        let others: BTreeSet<u64> = (0..=255)
+            .filter(|scheme| !(1..=4).contains(scheme))
+            .collect();
+        if self.refused_schemes != others {
+            let refused = &self.refused_schemes;
+            missing.push(format!("schemes refused {refused:?}, not 0 and 5 to 255"));
         }
         missing
     }

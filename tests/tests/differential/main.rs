@@ -121,13 +121,20 @@ impl Run {
         }
     }
 
-    /// The stored cases of a third reading of 01, of 01 with 02's job 2, and of 01 with 02's jobs 2 and
-    /// 4. The second implementation agrees with all of them.
+    /// The stored cases of a third reading of 01, of 01 with 02's job 2, with its jobs 2 and 4, and with its
+    /// jobs 2, 4 and 7. The second implementation agrees with all of them.
     fn stored(&mut self) {
         let base = include_str!("../../data/base.jsonl");
         let job02 = include_str!("../../data/job02.jsonl");
         let job04 = include_str!("../../data/job04.jsonl");
-        for (name, text) in [("base", base), ("job02", job02), ("job04", job04)] {
+        let job07 = include_str!("../../data/job07.jsonl");
+        let files = [
+            ("base", base),
+            ("job02", job02),
+            ("job04", job04),
+            ("job07", job07),
+        ];
+        for (name, text) in files {
             for case in &cases::read(text).expect("readable cases") {
                 if let Asked::Call { call, .. } = &case.asked {
                     self.call(call, 0, || format!("stored case {} of {name}", case.id));
@@ -167,12 +174,13 @@ impl Run {
         self.random_case(number, &format!("--seed {seed} --case {number}"));
     }
 
-    /// Every refusal that an operation can give was met, every code, taken or refused as is due, and
-    /// runs of every kind.
+    /// Every refusal that an operation can give was met, every code and every scheme, taken or refused as
+    /// is due, and runs of every kind.
     fn all_met(&mut self) {
         let mut missing = self.coverage.report(&self.operations);
         missing.extend(self.coverage.report_codes());
         missing.extend(self.coverage.report_runs());
+        missing.extend(self.coverage.report_schemes());
         for missing in missing {
             println!("NOT MET: {missing}");
             self.failures += 1;

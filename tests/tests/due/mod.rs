@@ -41,9 +41,9 @@ fn number_at(bytes: &[u8], at: usize) -> usize {
     bytes.get(at..at + 2).map_or(0, number)
 }
 
-/// The bytes of a row record, 4+16r: r is 4, 3, 2 in schemes 1, 2, 3.
+/// The bytes of a row record, 4+16r: r is 4, 3, 2, 2 in schemes 1, 2, 3, 4.
 fn record_length(scheme: u8) -> usize {
-    4 + 16 * (5 - usize::from(scheme))
+    4 + 16 * [4, 3, 2, 2][usize::from(scheme) - 1]
 }
 
 impl Given<'_> {
@@ -108,8 +108,10 @@ impl Given<'_> {
         match self.call.operation {
             Operation::Check => vec![self.n, self.m, self.q, p],
             Operation::Garble => vec![self.material_length(), 4 * p],
-            Operation::Evaluate | Operation::EvaluateGates if self.scheme() == 3 => vec![2 * p],
-            Operation::Evaluate | Operation::EvaluateGates => vec![p],
+            Operation::Evaluate | Operation::EvaluateGates => match self.scheme() {
+                1 | 2 => vec![p],
+                _ => vec![2 * p],
+            },
             _ => vec![],
         }
     }
@@ -141,7 +143,7 @@ impl Given<'_> {
             (11, _) => return self.wrong_list(),
             (12, _) => (material.len() < 9, material.len()),
             (13, _) => (material[..2] != [0x47, 0x48], 0),
-            (14, _) => (!(1..=3).contains(&self.scheme()), self.scheme().into()),
+            (14, _) => (!(1..=4).contains(&self.scheme()), self.scheme().into()),
             (15, _) => (material[3..9] != circuit[2..8], 3),
             (16, _) => (material.len() != self.material_length(), material.len()),
             (17, _) => return self.faulty_record(),

@@ -1,0 +1,105 @@
+// Whether a block enciphered under a key is the one due, by each form in which what enciphers stands.
+use aes::encrypt;
+use aes::encrypt_each_under;
+use aes::encrypt_fast;
+use aes::encrypt_pair;
+use aes::encrypt_pair_under;
+use aes::expand_key;
+use aes::s_box;
+use aes::t_tables;
+use block::Block;
+use check::same;
+
+// The 16 bytes of a field; of a field of another length, none agrees with anything.
+pub fn block_of(field: &[u8]) -> Block {
+    let mut bytes = [0u8; 16];
+    if field.len() == 16 {
+        buffer::copy_front(field, &mut bytes);
+    }
+    Block { bytes }
+}
+
+// Key, plaintext, ciphertext: by the steps of a round.
+pub fn encryption(key: &[u8], plaintext: &[u8], ciphertext: &[u8]) -> bool {
+    let t = s_box();
+    let w = expand_key(&t, block_of(key));
+    let c = encrypt(&t, &w, block_of(plaintext));
+    let bytes = c.bytes;
+    same(&bytes, ciphertext)
+}
+
+// The same by the tables.
+pub fn encryption_fast(key: &[u8], plaintext: &[u8], ciphertext: &[u8]) -> bool {
+    let t = s_box();
+    let m = t_tables();
+    let w = expand_key(&t, block_of(key));
+    let c = encrypt_fast(&m, &w, block_of(plaintext));
+    let bytes = c.bytes;
+    same(&bytes, ciphertext)
+}
+
+// The same as the first block of a pair. The other block is the key, so that it matters which of the two comes first.
+pub fn encryption_first(key: &[u8], plaintext: &[u8], ciphertext: &[u8]) -> bool {
+    let t = s_box();
+    let m = t_tables();
+    let k = block_of(key);
+    let w = expand_key(&t, k);
+    let p = encrypt_pair(&m, &w, block_of(plaintext), k);
+    let c = p.x;
+    let bytes = c.bytes;
+    same(&bytes, ciphertext)
+}
+
+// The same as the second block of a pair.
+pub fn encryption_second(key: &[u8], plaintext: &[u8], ciphertext: &[u8]) -> bool {
+    let t = s_box();
+    let m = t_tables();
+    let k = block_of(key);
+    let w = expand_key(&t, k);
+    let p = encrypt_pair(&m, &w, k, block_of(plaintext));
+    let c = p.y;
+    let bytes = c.bytes;
+    same(&bytes, ciphertext)
+}
+
+// The same under a key that is expanded beside the blocks, as the first block of a pair.
+pub fn under_first(key: &[u8], plaintext: &[u8], ciphertext: &[u8]) -> bool {
+    let m = t_tables();
+    let k = block_of(key);
+    let p = encrypt_pair_under(&m, k, block_of(plaintext), k);
+    let c = p.x;
+    let bytes = c.bytes;
+    same(&bytes, ciphertext)
+}
+
+// The same as the second block of a pair.
+pub fn under_second(key: &[u8], plaintext: &[u8], ciphertext: &[u8]) -> bool {
+    let m = t_tables();
+    let k = block_of(key);
+    let p = encrypt_pair_under(&m, k, k, block_of(plaintext));
+    let c = p.y;
+    let bytes = c.bytes;
+    same(&bytes, ciphertext)
+}
+
+// The same with a key each, as the first block. The other key is the plaintext, so that it matters which of the two is whose.
+pub fn each_first(key: &[u8], plaintext: &[u8], ciphertext: &[u8]) -> bool {
+    let m = t_tables();
+    let k = block_of(key);
+    let x = block_of(plaintext);
+    let p = encrypt_each_under(&m, k, x, x, k);
+    let c = p.x;
+    let bytes = c.bytes;
+    same(&bytes, ciphertext)
+}
+
+// The same as the second block.
+pub fn each_second(key: &[u8], plaintext: &[u8], ciphertext: &[u8]) -> bool {
+    let m = t_tables();
+    let k = block_of(key);
+    let x = block_of(plaintext);
+    let p = encrypt_each_under(&m, x, k, k, x);
+    let c = p.y;
+    let bytes = c.bytes;
+    same(&bytes, ciphertext)
+}
