@@ -59,11 +59,11 @@ static int work(const uint8_t seed[16], uint64_t run, uint8_t scheme, uint8_t u,
     return 0;
 }
 
-/* Each pair of values by each scheme, in runs 0 to 11 of the seed. Whether something refused. */
+/* Each pair of values by each scheme, in runs 0 to 15 of the seed. Whether something refused. */
 static int work_all(const uint8_t seed[16]) {
     uint64_t run = 0;
     uint8_t scheme, pair;
-    for (scheme = WEIGHHARE_GAX; scheme <= WEIGHHARE_HALF_GATES; scheme++) {
+    for (scheme = WEIGHHARE_GAX; scheme <= WEIGHHARE_REKEYED_HALF_GATES; scheme++) {
         for (pair = 0; pair < 4; pair++) {
             if (work(seed, run++, scheme, (uint8_t)(pair >> 1), (uint8_t)(pair & 1))) return 1;
         }

@@ -44,9 +44,10 @@
 /*
  * The version of this header, and of the archive and the Rust crate that come with it. The archive itself holds none.
  * 0.5.0 moved the arguments of weighhare_garble: an object compiled with an older header must be compiled anew before it
- * is linked with this archive. No linker notices where it was not.
+ * is linked with this archive. No linker notices where it was not. 0.6.0 adds scheme 4, which was refusal 14 before; no
+ * function's arguments moved.
  */
-#define WEIGHHARE_VERSION "0.5.0"
+#define WEIGHHARE_VERSION "0.6.0"
 
 #include <stddef.h>
 #include <stdint.h>
@@ -75,7 +76,7 @@ enum {
                                        lengths differ or are no multiple of 16 [the zero list's length] */
     WEIGHHARE_MATERIAL_SHORT = 12,  /* the material has under 9 bytes [its length] */
     WEIGHHARE_MATERIAL_MARK = 13,   /* the material does not begin with the mark 47 48 [offset: 0] */
-    WEIGHHARE_SCHEME = 14,          /* the scheme, the argument or the material's, is not 1, 2 or 3 [the scheme] */
+    WEIGHHARE_SCHEME = 14,          /* the scheme, the argument or the material's, is not 1, 2, 3 or 4 [the scheme] */
     WEIGHHARE_MATERIAL_SIZES = 15,  /* the material's n, m or q is not the circuit's [offset: 3] */
     WEIGHHARE_MATERIAL_LENGTH = 16, /* the material's length is not that of its scheme and the circuit [its length] */
     WEIGHHARE_ROW_RECORD = 17,      /* a row record has a wrong mark or wire number [the wire number due] */
@@ -105,11 +106,16 @@ enum {
     WEIGHHARE_OR = 14        /* charged */
 };
 
-/* Schemes: rows for each charged gate, and so the material's length, 11 + m + p(4 + 16 rows). */
+/*
+ * Schemes: rows for each charged gate, and so the material's length, 11 + m + p(4 + 16 rows). Schemes 3 and 4 differ in
+ * their hash alone, and their material has one length: where its scheme byte is changed from the one to the other,
+ * nothing refuses it, and it opens to other tokens.
+ */
 enum {
-    WEIGHHARE_GAX = 1,       /* four rows */
-    WEIGHHARE_GAXR = 2,      /* three rows */
-    WEIGHHARE_HALF_GATES = 3 /* two rows */
+    WEIGHHARE_GAX = 1,               /* four rows */
+    WEIGHHARE_GAXR = 2,              /* three rows */
+    WEIGHHARE_HALF_GATES = 3,        /* two rows; its hash has one fixed key */
+    WEIGHHARE_REKEYED_HALF_GATES = 4 /* two rows; the key of its hash changes with each tweak */
 };
 
 /*
@@ -140,11 +146,12 @@ uint8_t weighhare_plain(const uint8_t *circuit, size_t circuit_len, const uint8_
  *             with the same run number; secret, to wipe when its last garbling is made
  *   run       the run number: which of the seed's garblings this is; 0 for a seed that has one alone. Every number is
  *             taken. It stands in no file, and no other function asks for it
- *   scheme    1, 2 or 3
- *   material  output: 11 + m + p(4 + 16 rows) bytes, with 4, 3 or 2 rows in scheme 1, 2 or 3; for the evaluator
+ *   scheme    1, 2, 3 or 4
+ *   material  output: 11 + m + p(4 + 16 rows) bytes, with 4, 3, 2, 2 rows in schemes 1, 2, 3, 4; for the evaluator
  *   zeros     output: 16(n+q) bytes, the zero token of every wire; secret, to wipe when the inputs' tokens are chosen
  *   ones      output: 16n bytes, the one token of every input; secret, to wipe then too
- *   answer    the material's length, the calls of the block cipher made (4p), 0, 0
+ *   answer    the material's length, the calls of the block cipher made (4p), 0, 0. A call is one encryption; expanding a
+ *             key is none, and encryptions under the seed are not counted
  */
 uint8_t weighhare_garble(const uint8_t *circuit, size_t circuit_len, const uint8_t *seed, size_t seed_len, uint64_t run,
                          uint8_t scheme, uint8_t *material, size_t material_len, uint8_t *zeros, size_t zeros_len,
@@ -178,7 +185,7 @@ uint8_t weighhare_encode(const uint8_t *circuit, size_t circuit_len, const uint8
  *   tokens    16n bytes: a token for each input; to wipe after use
  *   material  the material, exactly as long as garble's answer says
  *   wires     output: 16(n+q) bytes, the token of every wire; to wipe after use
- *   answer    the calls of the block cipher made (p in schemes 1 and 2, 2p in scheme 3), 0, 0, 0
+ *   answer    the calls of the block cipher made (p in schemes 1 and 2, 2p in schemes 3 and 4), 0, 0, 0
  */
 uint8_t weighhare_evaluate(const uint8_t *circuit, size_t circuit_len, const uint8_t *tokens, size_t tokens_len,
                            const uint8_t *material, size_t material_len, uint8_t *wires, size_t wires_len,
@@ -249,7 +256,7 @@ static inline const char *weighhare_words(uint8_t number) {
     case WEIGHHARE_TOKENS_LENGTH: return "a token list has the wrong length";
     case WEIGHHARE_MATERIAL_SHORT: return "the material has under 9 bytes";
     case WEIGHHARE_MATERIAL_MARK: return "the material does not begin with the mark 47 48";
-    case WEIGHHARE_SCHEME: return "the scheme, the argument or the material's, is not 1, 2 or 3";
+    case WEIGHHARE_SCHEME: return "the scheme, the argument or the material's, is not 1, 2, 3 or 4";
     case WEIGHHARE_MATERIAL_SIZES: return "the material's n, m or q is not the circuit's";
     case WEIGHHARE_MATERIAL_LENGTH: return "the material's length is not that of its scheme and the circuit";
     case WEIGHHARE_ROW_RECORD: return "a row record has a wrong mark or wire number";

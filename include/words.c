@@ -1,6 +1,6 @@
 /*
  * What the header itself says. Prints the words of each number and of its place, for include/check to compare with the
- * comments of the enum, and tries the names of the codes on the archive. C11, and C++17 too.
+ * comments of the enum, and tries the names of the codes and of the schemes on the archive. C11, and C++17 too.
  */
 #include "weighhare.h"
 
@@ -56,6 +56,27 @@ static int codes(uint8_t u, uint8_t v) {
     return code <= 255;
 }
 
+/* Each scheme that has a name garbles an AND gate to as many rows as it has there; no other scheme is taken. */
+static int schemes(void) {
+    const uint8_t named[4][2] = {
+        {WEIGHHARE_GAX, 4}, {WEIGHHARE_GAXR, 3}, {WEIGHHARE_HALF_GATES, 2}, {WEIGHHARE_REKEYED_HALF_GATES, 2},
+    };
+    const uint8_t circuit[15] = {0x43, 0x48, 0, 2, 0, 1, 0, 1, 0x43, 0x47, 0, 1, 0, 2, WEIGHHARE_AND}, seed[16] = {7};
+    uint8_t material[80], zeros[48], ones[32];
+    uint64_t answer[4];
+    unsigned scheme, next = 0;
+    for (scheme = 0; scheme <= 255; scheme++) {
+        int has_name = next < 4 && named[next][0] == scheme;
+        uint8_t number = weighhare_garble(circuit, sizeof circuit, seed, sizeof seed, 0, (uint8_t)scheme, material,
+                                          sizeof material, zeros, sizeof zeros, ones, sizeof ones, answer);
+        if (number != (has_name ? WEIGHHARE_DONE : WEIGHHARE_SCHEME)) break;
+        if (answer[0] != (has_name ? 11u + 1u + 4u + 16u * named[next][1] : scheme)) break;
+        next += (unsigned)has_name;
+    }
+    if (scheme <= 255) printf("scheme %u is not what the header says\n", scheme);
+    return scheme <= 255 || next != 4;
+}
+
 int main(void) {
-    return words() || codes(0, 0) || codes(0, 1) || codes(1, 0) || codes(1, 1);
+    return words() || codes(0, 0) || codes(0, 1) || codes(1, 0) || codes(1, 1) || schemes();
 }

@@ -102,7 +102,7 @@ pub struct Gate {
 pub struct Garbled {
     /// The material's length: this many bytes at the front of the buffer, and no more, are what an evaluator needs.
     pub length: usize,
-    /// The calls of the block cipher made, 4p.
+    /// The calls of the block cipher made, 4p: each is one encryption. Those under the seed are not counted.
     pub calls: usize,
 }
 
@@ -143,13 +143,14 @@ pub fn plain(circuit: &[u8], values: &[u8], wires: &mut [u8]) -> Result<(), Refu
     results(number, answer).map(|_| ())
 }
 
-/// Garbles a circuit by a scheme: 1 is GaX, 2 GaXR, 3 half-gates. Refusals 1 to 7, 8, 14, 19.
+/// Garbles a circuit by a scheme: 1 is GaX, 2 GaXR, 3 half-gates, 4 re-keyed half-gates, which is scheme 3 but for its hash,
+/// whose key changes with each tweak. Refusals 1 to 7, 8, 14, 19.
 ///
 /// `seed` has 16 bytes, from `getrandom(2)` or another source of the system's random numbers; it is secret, and used for
 /// no other garbling with the same run number. `run` is the run number: which of the seed's garblings this is; 0 for a seed
 /// that has one alone. Every number is taken. It stands in no file, and no other function asks for it.
 ///
-/// Writes 11+m+p(4+16r) bytes to `material`, where r is 4, 3 or 2 in scheme 1, 2 or 3; 16(n+q) bytes to `zeros`, the zero
+/// Writes 11+m+p(4+16r) bytes to `material`, where r is 4, 3, 2, 2 in schemes 1, 2, 3, 4; 16(n+q) bytes to `zeros`, the zero
 /// token of every wire; and 16n bytes to `ones`, the one token of every input. Both lists are secret. Wipe `seed` when its
 /// last garbling is made, `zeros` and `ones` when the inputs' tokens are chosen.
 ///
@@ -212,7 +213,8 @@ pub fn encode(circuit: &[u8], values: &[u8], zeros: &[u8], ones: &[u8], tokens: 
     results(number, answer).map(|_| ())
 }
 
-/// Evaluates a garbled circuit, and answers the calls of the block cipher made: p in schemes 1 and 2, 2p in scheme 3.
+/// Evaluates a garbled circuit, and answers the calls of the block cipher made: p in schemes 1 and 2, 2p in schemes
+/// 3 and 4.
 /// Refusals 1 to 7, 11, 12 to 18, 19.
 ///
 /// `tokens` has 16n bytes, a token for each input; `material` is exactly as long as [`Garbled::length`] says. Writes

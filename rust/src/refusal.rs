@@ -68,7 +68,7 @@ pub enum Refusal {
     },
     /// 13: the material does not begin with the mark 47 48. Its place is 0.
     MaterialMark,
-    /// 14: the scheme, the argument or the material's, is not 1, 2 or 3.
+    /// 14: the scheme, the argument or the material's, is not 1, 2, 3 or 4.
     Scheme {
         /// The scheme.
         scheme: u8,
@@ -209,7 +209,7 @@ impl fmt::Display for Refusal {
             Self::TokensLength { length } => write!(f, "a token list has the wrong length, {}", Bytes(length)),
             Self::MaterialShort { length } => write!(f, "the material has {}, a header needs 9", Bytes(length)),
             Self::MaterialMark => write!(f, "the material does not begin with the mark 47 48"),
-            Self::Scheme { scheme } => write!(f, "the scheme is {scheme}, it must be 1, 2 or 3"),
+            Self::Scheme { scheme } => write!(f, "the scheme is {scheme}, it must be 1, 2, 3 or 4"),
             Self::MaterialSizes => write!(f, "the material's n, m or q, at byte 3, is not the circuit's"),
             Self::MaterialLength { length } => write!(f, "the material has {}, {NOT_ITS_LENGTH}", Bytes(length)),
             Self::RowRecord { wire } => write!(f, "the row record due for wire {wire} has a wrong mark or wire number"),
@@ -255,7 +255,7 @@ mod tests {
         (31, "a token list has the wrong length, 31 bytes"),
         (8, "the material has 8 bytes, a header needs 9"),
         (0, "the material does not begin with the mark 47 48"),
-        (4, "the scheme is 4, it must be 1, 2 or 3"),
+        (5, "the scheme is 5, it must be 1, 2, 3 or 4"),
         (3, "the material's n, m or q, at byte 3, is not the circuit's"),
         (
             79,

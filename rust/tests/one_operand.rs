@@ -45,7 +45,7 @@ fn plain_negates_and_copies() {
 
 #[test]
 fn a_garbling_negates_and_copies() {
-    for scheme in 1..=3 {
+    for scheme in 1..=4 {
         let (mut material, mut zeros, mut ones) = ([0; 16], [0; 7 * 16], [0; 2 * 16]);
         let garbled = weighhare::garble(&CIRCUIT, &[7; 16], 0, scheme, &mut material, &mut zeros, &mut ones);
         let garbled = garbled.expect("garbled");

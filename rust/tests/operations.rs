@@ -31,7 +31,7 @@ fn plain_gives_every_wire_and_leaves_the_rest() {
 
 #[test]
 fn garble_leaves_what_is_past_its_bytes() {
-    for scheme in 1..=3 {
+    for scheme in 1..=4 {
         let exact = garbling(scheme);
         let (mut material, mut zeros, mut ones) = ([FILL; 100], [FILL; 100], [FILL; 100]);
         let garbled = weighhare::garble(&AND, &SEED, 0, scheme, &mut material, &mut zeros, &mut ones).expect("garbled");
@@ -61,13 +61,13 @@ fn output_token(zeros: &[u8; 48], ones: &[u8; 32], bit: u8) -> [u8; 16] {
 
 #[test]
 fn evaluate_and_decode_give_the_plain_bit() {
-    for scheme in 1..=3 {
+    for scheme in 1..=4 {
         let Garbling { material, zeros, ones } = garbling(scheme);
         for (u, v) in [(0, 0), (0, 1), (1, 0), (1, 1)] {
             let (mut inputs, mut tokens, mut bits) = ([0; 32], [FILL; 49], [FILL; 2]);
             weighhare::encode(&AND, &[u, v], &zeros[..32], &ones, &mut inputs).expect("encoded");
             let calls = weighhare::evaluate(&AND, &inputs, &material, &mut tokens).expect("evaluated");
-            assert_eq!(calls, if scheme == 3 { 2 } else { 1 });
+            assert_eq!(calls, [1, 1, 2, 2][usize::from(scheme) - 1]);
             assert_eq!(tokens[..32], inputs);
             assert_eq!(tokens[32..48], output_token(&zeros, &ones, u & v));
             assert_eq!(tokens[48], FILL);
@@ -79,7 +79,7 @@ fn evaluate_and_decode_give_the_plain_bit() {
 
 #[test]
 fn evaluate_gates_answers_as_evaluate_does_to_the_bytes() {
-    for (scheme, rows, calls) in [(1, 4, 2), (2, 3, 2), (3, 2, 4)] {
+    for (scheme, rows, calls) in [(1, 4, 2), (2, 3, 2), (3, 2, 4), (4, 2, 4)] {
         let (mut material, mut zeros, mut ones) = (vec![0; 13 + 2 * (4 + 16 * rows)], [0; 96], [0; 48]);
         let garbled =
             weighhare::garble(&THREE, &SEED, 0, scheme, &mut material, &mut zeros, &mut ones).expect("garbled");

@@ -96,10 +96,13 @@ fn of_garble() {
         garble(&SEED[1..], 1, [80, 48, 32]),
         Some(Refusal::SeedLength { length: 15 })
     );
-    assert_eq!(garble(&SEED, 4, [80, 48, 32]), Some(Refusal::Scheme { scheme: 4 }));
+    for scheme in [0, 5, 255] {
+        assert_eq!(garble(&SEED, scheme, [80, 48, 32]), Some(Refusal::Scheme { scheme }));
+    }
     assert_eq!(garble(&SEED, 1, [79, 47, 31]), Some(Refusal::Room { needed: 80 }));
     assert_eq!(garble(&SEED, 1, [80, 47, 31]), Some(Refusal::Room { needed: 48 }));
     assert_eq!(garble(&SEED, 1, [80, 48, 31]), Some(Refusal::Room { needed: 32 }));
+    assert_eq!(garble(&SEED, 4, [47, 48, 32]), Some(Refusal::Room { needed: 48 }));
 }
 
 #[test]
@@ -111,7 +114,13 @@ fn of_the_material() {
         Some(Refusal::MaterialShort { length: 8 })
     );
     assert_eq!(material_with(1, 0x47), Some(Refusal::MaterialMark));
-    assert_eq!(material_with(2, 0), Some(Refusal::Scheme { scheme: 0 }));
+    for scheme in [0, 5, 255] {
+        assert_eq!(material_with(2, scheme), Some(Refusal::Scheme { scheme }));
+    }
+    for scheme in 2..=4 {
+        let refusal = material_with(2, scheme);
+        assert_eq!(refusal, Some(Refusal::MaterialLength { length: 80 }), "fewer rows");
+    }
     assert_eq!(material_with(4, 3), Some(Refusal::MaterialSizes));
     assert_eq!(
         evaluate_refusal(&ones, &material[..79]),

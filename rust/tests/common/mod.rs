@@ -27,7 +27,7 @@ pub struct Garbling {
 
 /// The material's length for the AND gate under a scheme.
 pub fn material_length(scheme: u8) -> usize {
-    [80, 64, 48][usize::from(scheme) - 1]
+    [80, 64, 48, 48][usize::from(scheme) - 1]
 }
 
 /// Garbles the AND gate into buffers of just the lengths needed, which held another byte before than `FILL`.
