@@ -65,6 +65,12 @@ static inline block block_double(block b)
     return _mm_shuffle_epi8(_mm_xor_si128(_mm_slli_epi64(x, 1), carried), turn);
 }
 
+/* σ: the sum of the halves, and the left one, which is the lower of the register. */
+static inline block block_sigma(block b)
+{
+    return _mm_xor_si128(_mm_unpacklo_epi64(b, b), _mm_srli_si128(b, 8));
+}
+
 static inline block encrypt(const schedule *keys, block x)
 {
     x = _mm_xor_si128(x, keys->key[0]);
@@ -133,6 +139,55 @@ static inline void pi_2(block x[2])
 static inline void pi_4(block x[4])
 {
     pi_many(x, 4);
+}
+
+/* The next round key. SubWord of the last word is the instruction of the last round: on four equal columns, the word turned,
+ * ShiftRows changes nothing, and the round constant is the key that it adds. Measured on an AMD EPYC it takes 4 %
+ * longer than aeskeygenassist, which on other processors is several times slower than a round. */
+static inline block round_key(block key, int constant)
+{
+    const __m128i last_turned = _mm_set1_epi32(0x0C0F0E0D);
+    block word = _mm_aesenclast_si128(_mm_shuffle_epi8(key, last_turned), _mm_set1_epi32(constant));
+    key = _mm_xor_si128(key, _mm_slli_si128(key, 4));
+    key = _mm_xor_si128(key, _mm_slli_si128(key, 8));
+    return _mm_xor_si128(key, word);
+}
+
+/* A round of so many blocks, the first half under the one key and the others under the other, which are first taken on. */
+static inline __attribute__((always_inline)) void keyed_round(block key[2], int constant, block *x, int count)
+{
+    key[0] = round_key(key[0], constant);
+    key[1] = round_key(key[1], constant);
+    for (int i = 0; i < count; i++)
+        x[i] = constant == 0x36 ? _mm_aesenclast_si128(x[i], key[2 * i / count]) : _mm_aesenc_si128(x[i], key[2 * i / count]);
+}
+
+/* Two keys that are expanded while the blocks go through the rounds: the numbers first and first+1. */
+static inline __attribute__((always_inline)) void keyed_many(uint64_t first, block *x, int count)
+{
+    block key[2] = {block_number(first), block_number(first + 1)};
+    for (int i = 0; i < count; i++)
+        x[i] = _mm_xor_si128(x[i], key[2 * i / count]);
+    keyed_round(key, 0x01, x, count);
+    keyed_round(key, 0x02, x, count);
+    keyed_round(key, 0x04, x, count);
+    keyed_round(key, 0x08, x, count);
+    keyed_round(key, 0x10, x, count);
+    keyed_round(key, 0x20, x, count);
+    keyed_round(key, 0x40, x, count);
+    keyed_round(key, 0x80, x, count);
+    keyed_round(key, 0x1B, x, count);
+    keyed_round(key, 0x36, x, count);
+}
+
+static inline void keyed_2(uint64_t first, block x[2])
+{
+    keyed_many(first, x, 2);
+}
+
+static inline void keyed_4(uint64_t first, block x[4])
+{
+    keyed_many(first, x, 4);
 }
 
 #define NAME(operation) aesni_##operation

@@ -88,7 +88,7 @@ static void agree_on_evaluate(struct subject *s)
 
 void agree_on(struct subject *s)
 {
-    for (uint8_t scheme = 1; scheme <= 3; scheme++) {
+    for (uint8_t scheme = 1; scheme <= 4; scheme++) {
         agree_on_garble(s, scheme);
         run_garble(&workers[0], s, scheme);
         agree_on_evaluate(s);
@@ -99,13 +99,13 @@ void agree_on(struct subject *s)
 static void agree_on_changed(struct subject *s, unsigned calls)
 {
     for (unsigned i = 0; i < calls; i++) {
-        uint8_t scheme = (uint8_t)(1 + i % 3), flip = (uint8_t)(1u << random_below(8));
+        uint8_t scheme = (uint8_t)(1 + i % 4), flip = (uint8_t)(1u << random_below(8));
         uint8_t *byte = &s->circuit[random_below(s->circuit_length)];
         *byte ^= flip;
         agree_on_garble(s, scheme);
         *byte ^= flip;
         run_garble(&workers[0], s, scheme);
-        byte = i % 4 ? &s->material[random_below(s->material_length)] : &s->circuit[random_below(s->circuit_length)];
+        byte = i / 4 % 4 ? &s->material[random_below(s->material_length)] : &s->circuit[random_below(s->circuit_length)];
         *byte ^= flip;
         s->material_length += i % 7 == 0;
         agree_on_evaluate(s);
@@ -114,10 +114,24 @@ static void agree_on_changed(struct subject *s, unsigned calls)
     }
 }
 
+/* Every scheme byte, as the argument and in material of every scheme: schemes 3 and 4 take each other's. */
+static void agree_on_schemes(struct subject *s)
+{
+    for (unsigned byte = 0; byte <= 255; byte++) {
+        agree_on_garble(s, (uint8_t)byte);
+        for (uint8_t scheme = 1; scheme <= 4; scheme++) {
+            run_garble(&workers[0], s, scheme);
+            s->material[2] = (uint8_t)byte;
+            agree_on_evaluate(s);
+        }
+    }
+}
+
 void agree_on_damage(unsigned calls)
 {
     struct subject s = make_subject(150);
     agree_on_changed(&s, calls);
+    agree_on_schemes(&s);
     free_subject(&s);
 }
 

@@ -7,7 +7,7 @@
 /* Garbles and evaluates by every worker and compares all that is written; ends the program where they differ. */
 void agree_on(struct subject *s);
 
-/* The same on so many calls with one byte of an argument changed, where most are refused. */
+/* The same on so many calls with one byte of an argument changed, where most are refused, and with every scheme byte. */
 void agree_on_damage(unsigned calls);
 
 /* Both with each of four run numbers other than 0. */

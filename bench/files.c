@@ -64,7 +64,7 @@ unsigned check_material(const uint8_t *circuit, const struct sizes *z, const uin
         return refuse(place, length, 12);
     if (material[0] != 0x47 || material[1] != 0x48)
         return refuse(place, 0, 13);
-    if (material[2] < 1 || material[2] > 3)
+    if (material[2] < 1 || material[2] > 4)
         return refuse(place, material[2], 14);
     if (number16(material + 3) != z->n || number16(material + 5) != z->m || number16(material + 7) != z->q)
         return refuse(place, 3, 15);

@@ -46,7 +46,7 @@ static inline unsigned free_c(unsigned code)
 /* The rows of a charged gate. */
 static inline size_t rows_of(unsigned scheme)
 {
-    return 5 - scheme;
+    return scheme < 3 ? 5 - scheme : 2;
 }
 
 /* The material's length, 11+m+p(4+16r). */

@@ -1,16 +1,17 @@
-/* One gate, garbled and evaluated by each scheme, over any block and any AES. To be included after `block`, its functions
- * and pi_1, pi_2, pi_4 are defined. A bit times a block is taken by a mask: colours are as good as random. */
+/* One gate, garbled and evaluated by each scheme, over any block and any AES. To be included after `block`, its functions,
+ * pi_1, pi_2, pi_4, which are AES under the fixed key, and keyed_2, keyed_4, which are AES under two keys of the call, are
+ * defined. A bit times a block is taken by a mask: colours are as good as random. */
 #include "files.h"
 
-/* R, and what doubling makes of it: doubling is linear, so the other tokens' doubles need not be worked out. */
+/* R, and what doubling and σ make of it: both are linear, so those of the other tokens need not be worked out. */
 struct offset {
-    block r, r2, r4;
+    block r, r2, r4, sigma;
 };
 
 static inline struct offset offset_of(block r)
 {
     block r2 = block_double(r);
-    return (struct offset){r, r2, block_double(r2)};
+    return (struct offset){r, r2, block_double(r2), block_sigma(r)};
 }
 
 static inline block xor3(block a, block b, block c)
@@ -62,18 +63,26 @@ static inline block garble_rows(const struct offset *o, unsigned code, uint64_t 
     return x;
 }
 
+/* The two schemes of half-gates are one function each, made for the scheme that it is called with. */
+#define HALF static inline __attribute__((always_inline))
+
 /* α, β and γ of a charged code, as bits 2, 1 and 0. */
 static const uint8_t half_bits[16] = {[1] = 6, [2] = 4, [4] = 2, [8] = 0, [14] = 7, [13] = 5, [11] = 3, [7] = 1};
 
-/* Scheme 3: rows G and E, and the zero token. */
-static inline block garble_half(const struct offset *o, unsigned code, uint64_t g, block xa, block xb, block rows[2])
+/* Schemes 3 and 4: rows G and E, and the zero token. Under scheme 4 two keys, 2g and 2g+1, serve two blocks each. */
+HALF block garble_half(unsigned scheme, const struct offset *o, unsigned code, uint64_t g, block xa, block xb, block rows[2])
 {
-    unsigned bits = half_bits[code];
+    unsigned bits = half_bits[code], rekeyed = scheme == 4;
     block a = block_xor(xa, block_times(bits >> 2, o->r)), b = block_xor(xb, block_times(bits >> 1 & 1, o->r));
     unsigned s = block_colour(a), t = block_colour(b);
-    block ka = block_xor(block_double(a), block_number(2 * g)), kb = block_xor(block_double(b), block_number(2 * g + 1));
-    block k[4] = {ka, block_xor(ka, o->r2), kb, block_xor(kb, o->r2)}, h[4] = {k[0], k[1], k[2], k[3]};
-    pi_4(h);
+    block ka = rekeyed ? block_sigma(a) : block_xor(block_double(a), block_number(2 * g));
+    block kb = rekeyed ? block_sigma(b) : block_xor(block_double(b), block_number(2 * g + 1));
+    block apart = rekeyed ? o->sigma : o->r2;
+    block k[4] = {ka, block_xor(ka, apart), kb, block_xor(kb, apart)}, h[4] = {k[0], k[1], k[2], k[3]};
+    if (rekeyed)
+        keyed_4(2 * g, h);
+    else
+        pi_4(h);
     for (int i = 0; i < 4; i++)
         h[i] = block_xor(h[i], k[i]);
     block other = block_xor(h[2], h[3]); /* E ⊕ A */
@@ -92,12 +101,17 @@ static inline block open_row(unsigned scheme, uint64_t g, block a, block b, cons
     return xor3(pi_1(k), k, z);
 }
 
-/* Scheme 3, opened. */
-static inline block open_half(uint64_t g, block a, block b, const uint8_t *rows)
+/* Schemes 3 and 4, opened. */
+HALF block open_half(unsigned scheme, uint64_t g, block a, block b, const uint8_t *rows)
 {
-    block k[2] = {block_xor(block_double(a), block_number(2 * g)), block_xor(block_double(b), block_number(2 * g + 1))};
-    block h[2] = {k[0], k[1]};
-    pi_2(h);
+    unsigned rekeyed = scheme == 4;
+    block ka = rekeyed ? block_sigma(a) : block_xor(block_double(a), block_number(2 * g));
+    block kb = rekeyed ? block_sigma(b) : block_xor(block_double(b), block_number(2 * g + 1));
+    block k[2] = {ka, kb}, h[2] = {ka, kb};
+    if (rekeyed)
+        keyed_2(2 * g, h);
+    else
+        pi_2(h);
     block both = block_xor(xor3(h[0], k[0], h[1]), k[1]);
     block e = block_xor(block_load(rows + 16), a);
     return xor3(both, block_times(block_colour(a), block_load(rows)), block_times(block_colour(b), e));

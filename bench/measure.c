@@ -39,7 +39,7 @@ static double time_of(const struct worker *w, struct subject *s, enum operation 
 static const struct job {
     enum operation operation;
     uint8_t scheme;
-} jobs[] = {{CHECK, 3}, {GARBLE, 1}, {EVALUATE, 1}, {GARBLE, 2}, {EVALUATE, 2}, {GARBLE, 3}, {EVALUATE, 3}};
+} jobs[] = {{CHECK, 3}, {GARBLE, 1}, {EVALUATE, 1}, {GARBLE, 2}, {EVALUATE, 2}, {GARBLE, 3}, {EVALUATE, 3}, {GARBLE, 4}, {EVALUATE, 4}};
 
 enum { JOBS = sizeof jobs / sizeof jobs[0], SIZES = 4 };
 
@@ -86,7 +86,7 @@ static void measure_all(unsigned rounds, unsigned first)
         for (int size = 0; size < SIZES; size++)
             measure(&subjects[size], times[size], round, (first + round) % worker_count);
     print_all(rounds);
-    for (uint8_t scheme = 1; scheme <= 3; scheme++)
+    for (uint8_t scheme = 1; scheme <= 4; scheme++)
         measure_repeated(&subjects[1], scheme, rounds, first);
     for (int size = 0; size < SIZES; size++)
         free_subject(&subjects[size]);

@@ -5,9 +5,9 @@ from math import log
 from results import CALLS, SCHEMES, WORKERS
 
 COLOURS = {"library": "#1f5fa8", "tables": "#d08c1d", "aesni": "#58a06c"}
-LINES = {1: "#1f5fa8", 2: "#8a4fa0", 3: "#c2452d"}
+LINES = {1: "#1f5fa8", 2: "#8a4fa0", 3: "#c2452d", 4: "#4a7a2c"}
 WIDTH = 960
-BARS = {"left": 190, "right": 880, "top": 110}
+BARS = {"left": 235, "right": 900, "top": 110}
 GROWTH = {"left": 80, "right": 720, "height": 300}
 
 

@@ -17,15 +17,17 @@ and from hour to hour; ratios less, instructions hardly.
 
 The baselines are the same work in C (`bench/*.c`): the same files in and out, the same refusals tried first. Tables: four tables of
 256 words, the fixed key's schedule made once, two blocks side by side. AES-NI: the processor's instructions, up to four blocks side
-by side. Both take a bit times a block by a mask and use that doubling is linear. Compiled by gcc with `-O3 -march=native`; the library
+by side. Both take a bit times a block by a mask and use that doubling and σ are linear. Under scheme 4 both expand two keys for a charged
+gate, garbling and evaluating, round by round beside the blocks that these encipher. Compiled by gcc with `-O3 -march=native`; the library
 is built for plain x86-64. In the same runs all that they write was compared with the library's, byte for byte, on each
-circuit measured, on one with gates that use one operand too, on one garbled with four run numbers other than 0, and on 1,500 calls with
-a byte of an argument changed. What is measured has run number 0.
+circuit measured, on one with gates that use one operand too, on one garbled with four run numbers other than 0, on 1,500 calls with
+a byte of an argument changed, and with every scheme byte. What is measured has run number 0.
 """
 
 CHAINED = """Chained rounds: the library once more, made by `bench/chained`, with AES by SubBytes, ShiftRows, MixColumns and AddRoundKey one
 after the other in place of look-ups in the four tables. The body of one function is all that differs in the source, and its contract
-is the same; it names the S-box for each block, which is about a hundredth of its instructions. This form is proved like the library and
+is the same; it names the S-box for each block, which is about a hundredth of its instructions. Scheme 4's keys are expanded by the
+tables in both. This form is proved like the library and
 has its turn like a baseline, and what it writes was compared in the same way.
 """
 

@@ -1,6 +1,6 @@
 """The lines that measure prints, read: what a round took, and what can be said of the rounds of several runs."""
 
-SCHEMES = {1: "GaX", 2: "GaXR", 3: "half-gates"}
+SCHEMES = {1: "GaX", 2: "GaXR", 3: "half-gates", 4: "re-keyed half-gates"}
 WORKERS = {"library": "the library", "chained": "the library, chained rounds", "tables": "C, AES by tables", "aesni": "C, AES-NI"}
 BASELINES = ("tables", "aesni")
 CALLS = [(operation, scheme) for operation in ("garble", "evaluate") for scheme in SCHEMES]

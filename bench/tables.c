@@ -66,6 +66,12 @@ static inline block block_double(block b)
     return (block){b.high << 1 | b.low >> 63, b.low << 1 ^ (out & 0x87)};
 }
 
+/* σ: the sum of the halves, and the left one. */
+static inline block block_sigma(block b)
+{
+    return (block){b.high ^ b.low, b.high};
+}
+
 /* One word of a round: from four words, the bytes of one column after ShiftRows. */
 #define COLUMN(a, b, c, d) (table[0][(a) >> 24] ^ table[1][(b) >> 16 & 255] ^ table[2][(c) >> 8 & 255] ^ table[3][(d)&255])
 
@@ -179,6 +185,66 @@ static inline void pi_4(block x[4])
 {
     pi_2(x);
     pi_2(x + 2);
+}
+
+/* The next round key of a key on its way, by words: SubWord of RotWord of the last, and sums. */
+static inline struct columns next_key(struct columns key, uint32_t constant)
+{
+    uint32_t word = key.d;
+    key.a ^= LAST(word << 8, word << 8, word << 8, word >> 24) ^ constant << 24;
+    key.b ^= key.a;
+    key.c ^= key.b;
+    key.d ^= key.c;
+    return key;
+}
+
+/* A tweak as a key: its number has fewer than 32 bits. */
+static inline struct columns key_number(uint64_t number)
+{
+    return (struct columns){0, 0, 0, (uint32_t)number};
+}
+
+#define WORDS(key) ((const uint32_t[4]){(key).a, (key).b, (key).c, (key).d})
+
+static const uint8_t constants[10] = {0x01, 0x02, 0x04, 0x08, 0x10, 0x20, 0x40, 0x80, 0x1B, 0x36};
+
+/* Two blocks side by side, each under a key of its own: the numbers first and first+1. A key is expanded beside its block,
+ * round by round, and no schedule is written: measured, this is a fifth faster than a loop that writes both first. */
+static inline void keyed_2(uint64_t first, block x[2])
+{
+    struct columns key = key_number(first), other_key = key_number(first + 1);
+    struct columns one = first_key(x[0], WORDS(key)), other = first_key(x[1], WORDS(other_key));
+#pragma GCC unroll 9
+    for (int round = 1; round < 10; round++) {
+        key = next_key(key, constants[round - 1]);
+        other_key = next_key(other_key, constants[round - 1]);
+        one = middle_round(one, WORDS(key));
+        other = middle_round(other, WORDS(other_key));
+    }
+    x[0] = last_round(one, WORDS(next_key(key, constants[9])));
+    x[1] = last_round(other, WORDS(next_key(other_key, constants[9])));
+}
+
+/* Two blocks side by side under one key. Put together in vectors by the compiler, the words take a fourteenth longer. */
+static __attribute__((noinline, optimize("no-tree-slp-vectorize"))) void keyed_pair(uint64_t number, block x[2])
+{
+    struct columns key = key_number(number);
+    struct columns one = first_key(x[0], WORDS(key)), other = first_key(x[1], WORDS(key));
+#pragma GCC unroll 9
+    for (int round = 1; round < 10; round++) {
+        key = next_key(key, constants[round - 1]);
+        one = middle_round(one, WORDS(key));
+        other = middle_round(other, WORDS(key));
+    }
+    key = next_key(key, constants[9]);
+    x[0] = last_round(one, WORDS(key));
+    x[1] = last_round(other, WORDS(key));
+}
+
+static inline void keyed_4(uint64_t first, block x[4])
+{
+    keyed_pair(first, x);
+    keyed_pair(first + 1, x + 2);
 }
 
 #define NAME(operation) tables_##operation

@@ -60,7 +60,7 @@ INLINE uint8_t *garble_charged(unsigned scheme, const struct seed *seed, const s
         *x = garble_rows(o, code, g, xa, xb, NULL, rows);
         return write_record(at, g, rows + 1, 3);
     }
-    *x = garble_half(o, code, g, xa, xb, rows);
+    *x = garble_half(scheme, o, code, g, xa, xb, rows);
     return write_record(at, g, rows, 2);
 }
 
@@ -102,8 +102,10 @@ static void garble_all(unsigned scheme, const uint8_t *circuit, const struct siz
         at = garble_gates(1, circuit, z, &seed, &o, at, zeros);
     else if (scheme == 2)
         at = garble_gates(2, circuit, z, &seed, &o, at, zeros);
-    else
+    else if (scheme == 3)
         at = garble_gates(3, circuit, z, &seed, &o, at, zeros);
+    else
+        at = garble_gates(4, circuit, z, &seed, &o, at, zeros);
     at[0] = 0x47, at[1] = 0x44;
     const uint8_t *last = zeros + 16 * (z->n + z->q - z->m) + 15;
     for (size_t i = 0; i < z->m; i++)
@@ -121,7 +123,7 @@ uint8_t NAME(garble)(const uint8_t *circuit, size_t length, const uint8_t *seed,
         return answered(answer, number, place, 0);
     if (seed_length != 16)
         return answered(answer, 8, seed_length, 0);
-    if (scheme < 1 || scheme > 3)
+    if (scheme < 1 || scheme > 4)
         return answered(answer, 14, scheme, 0);
     size_t file = material_length(&z, scheme), wires = 16 * (z.n + z.q), inputs = 16 * z.n;
     if (material_room < file)
@@ -144,7 +146,7 @@ INLINE void evaluate_gates(unsigned scheme, const uint8_t *circuit, const struct
         block b = block_load(wires + 16 * (number16(record + 4) - 1));
         block x = open_free(record[6], a, b);
         if (!is_free(record[6])) {
-            x = scheme == 3 ? open_half(g, a, b, at + 4) : open_row(scheme, g, a, b, at + 4);
+            x = scheme >= 3 ? open_half(scheme, g, a, b, at + 4) : open_row(scheme, g, a, b, at + 4);
             at += step;
         }
         block_store(wires + 16 * (g - 1), x);
@@ -172,7 +174,9 @@ uint8_t NAME(evaluate)(const uint8_t *circuit, size_t length, const uint8_t *tok
         evaluate_gates(1, circuit, &z, material + 9, wires);
     else if (material[2] == 2)
         evaluate_gates(2, circuit, &z, material + 9, wires);
-    else
+    else if (material[2] == 3)
         evaluate_gates(3, circuit, &z, material + 9, wires);
-    return answered(answer, 0, material[2] == 3 ? 2 * z.p : z.p, 0);
+    else
+        evaluate_gates(4, circuit, &z, material + 9, wires);
+    return answered(answer, 0, material[2] >= 3 ? 2 * z.p : z.p, 0);
 }
