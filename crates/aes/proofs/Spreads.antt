@@ -10,7 +10,7 @@ use Rattle.aes.specs.declared.packed.Words.{Words}
 use Rattle.aes.specs.Tables.{byteOf, stateOf, IsTTables}
 use Rattle.aes.specs.Round.{Spread}
 use Rattle.aes.proofs.Tables.{turn, mixed-word}
-use Rattle.aes.proofs.Columns.{state, mixed-state, added-state}
+use Rattle.aes.proofs.Columns.{mixed-state, added-state}
 
 -- the first of five, last
 key-last : (k p q r s : ℕ) → bitXor (bitXor (bitXor (bitXor k p) q) r) s ≡ bitXor (bitXor (bitXor (bitXor p q) r) s) k

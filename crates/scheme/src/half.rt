@@ -11,7 +11,7 @@ use block::Block;
 use model::Truth;
 use model::Wire;
 ghost use mathlib.Core.Path.{_≡_};
-ghost use Prim.Native.Nat.{_+_, _*_, _-_, _≤_};
+ghost use Prim.Native.Nat.{_-_, _≤_};
 ghost use Rattle.aes.specs.Lent.{Lent};
 ghost use Rattle.model.specs.Aes.{_⊕_, times};
 ghost use Rattle.model.specs.Circuit.{charged, kindOf};
