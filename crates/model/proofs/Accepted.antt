@@ -2,17 +2,17 @@
 use Prim.Native.Nat.{ℕ, zero, suc, _+_, _*_, _-_, _≤_, _<_}
 use native.Mathlib.Omega.{arith}
 use mathlib.Core.Path.{_≡_, refl, ap₂}
-use mathlib.Core.Bool.{true, false}
+use mathlib.Core.Bool.{Bool, true, false}
 use mathlib.Core.List.{List, [], _∷_, map}
 use borrow.Author.Tests.{ltb-true, leb-true, eqb-true, not-false}
 use lib.ListN.{length, getD}
 use Rattle.model.specs.declared.Gate.{Gate}
 use Rattle.model.specs.Bytes.{from}
 use Rattle.model.specs.Circuit as C
-use Rattle.model.specs.Circuit.{Circuit, Kind, kindOf, inputs, outputs, gates, gateAt, gateWire, sizesHold, operandsHold, circuitOf}
-use Rattle.model.specs.Refusals.{fine, isRefused, headVerdict, gateVerdict, recordVerdict, circuitVerdict}
+use Rattle.model.specs.Circuit.{Circuit, Kind, kindOf, inputs, outputs, gates, gateAt, outputAt, gateWire, named, mostOutputs, sizesHold, circuitLength, operandsHold, circuitOf}
+use Rattle.model.specs.Refusals.{fine, isRefused, headVerdict, gateVerdict, recordVerdict, outputVerdict, outputsVerdict, circuitVerdict}
 use Rattle.model.proofs.Lists.{tabulate-length}
-use Rattle.model.proofs.Outputs.{outputs-many, output-low, output-high}
+use Rattle.model.proofs.Outputs.{outputs-many, named-output, last-output}
 use Rattle.model.proofs.Verdicts.{then-fine, refuse-fine, and-both, first-each}
 use Rattle.model.proofs.Codes.{Used, used-charged, used-free}
 
@@ -22,12 +22,19 @@ pub record SizesHold (n m q : ℕ) : Type 0 where
   pub n-low : 2 ≤ n
   pub n-high : n ≤ 4096
   pub m-low : 1 ≤ m
-  pub m-high : m ≤ q
+  pub m-high : m ≤ n + q
+  pub q-low : 1 ≤ q
   pub sum : n + q ≤ 65535
 
-sizes-held : (n m q : ℕ) → sizesHold n m q ≡ true → SizesHold n m q
+-- whether outputs are named or not, there are no more than wires
+most-wires : (by-name : Bool) (n m q : ℕ) → m ≤ mostOutputs by-name n q → m ≤ n + q
+unfolding mostOutputs
+most-wires true n m q h = h
+most-wires false n m q h = omega arith
+
+pub sizes-held : (by-name : Bool) (n m q : ℕ) → sizesHold by-name n m q ≡ true → SizesHold n m q
 unfolding sizesHold
-sizes-held n m q e =
+sizes-held by-name n m q e =
     let a = and-both _ _ e in
     let b = and-both _ _ (a .0) in
     let c = and-both _ _ (b .0) in
@@ -37,13 +44,14 @@ sizes-held n m q e =
       n-low = leb-true _ _ (f .0);
       n-high = leb-true _ _ (f .1);
       m-low = leb-true _ _ (d .1);
-      m-high = leb-true _ _ (c .1);
+      m-high = most-wires by-name n m q (leb-true _ _ (c .1));
+      q-low = leb-true _ _ (b .1);
       sum = leb-true _ _ (a .1);
     }
 
 pub record HeaderHolds (s : List ℕ) : Type 0 where
   pub sizes : SizesHold (inputs s) (outputs s) (gates s)
-  pub whole : length s ≡ 8 + 7 * gates s
+  pub whole : length s ≡ circuitLength (named s) (outputs s) (gates s)
 
 pub header-holds : (s : List ℕ) → headVerdict s ≡ fine → HeaderHolds s
 unfolding headVerdict
@@ -51,13 +59,27 @@ header-holds s e =
     let a = then-fine _ _ e in
     let b = then-fine _ _ (a .0) in
     record {
-      sizes = sizes-held (inputs s) (outputs s) (gates s) (not-false _ (refuse-fine _ _ _ (b .1)));
+      sizes = sizes-held (named s) (inputs s) (outputs s) (gates s) (not-false _ (refuse-fine _ _ _ (b .1)));
       whole = eqb-true _ _ (not-false _ (refuse-fine _ _ _ (a .1)));
     }
 
 pub accepted-header : (s : List ℕ) → circuitVerdict s ≡ fine → HeaderHolds s
 unfolding circuitVerdict
-accepted-header s e = header-holds s (then-fine _ _ e .0)
+accepted-header s e = header-holds s (then-fine _ _ (then-fine _ _ e .0) .0)
+
+-- the gates lie within the bytes, and so do the output records of a circuit that names its outputs
+module _ (s : List ℕ) (h : HeaderHolds s) where
+  pub gates-inside : 8 + 7 * gates s ≤ length s
+  unfolding circuitLength
+  gates-inside = go (named s) (h .whole)
+    where
+      go : (b : Bool) → length s ≡ circuitLength b (outputs s) (gates s) → 8 + 7 * gates s ≤ length s
+      go true e = omega arith
+      go false e = omega arith
+
+  pub outputs-inside : named s ≡ true → 8 + 7 * gates s + 4 * outputs s ≤ length s
+  unfolding circuitLength
+  outputs-inside e = let w : length s ≡ 8 + 7 * gates s + 4 * outputs s = rw e at (h .whole) in omega arith
 
 -- ---- the gates
 
@@ -89,8 +111,34 @@ gate-holds own g e =
 pub accepted-gate : (s : List ℕ) (k : ℕ) → circuitVerdict s ≡ fine → k < gates s → GateHolds (gateWire (inputs s) k) (gateAt s k)
 unfolding circuitVerdict recordVerdict
 accepted-gate s k e h =
-    let r = first-each (recordVerdict s (inputs s)) (gates s) k (then-fine _ _ e .1) h in
+    let r = first-each (recordVerdict s (inputs s)) (gates s) k (then-fine _ _ (then-fine _ _ e .0) .1) h in
     gate-holds (gateWire (inputs s) k) (gateAt s k) (then-fine _ _ r .1)
+
+-- ---- the outputs
+
+-- output i is a wire
+pub record OutputHolds (s : List ℕ) (i : ℕ) : Type 0 where
+  pub low : 1 ≤ getD (circuitOf s .outputs) i 0
+  pub high : getD (circuitOf s .outputs) i 0 ≤ inputs s + gates s
+
+named-holds : (s : List ℕ) (i : ℕ) → outputVerdict s i ≡ fine → getD (circuitOf s .outputs) i 0 ≡ outputAt s i → OutputHolds s i
+unfolding outputVerdict
+named-holds s i e is =
+    let a = and-both _ _ (not-false _ (refuse-fine _ _ _ (then-fine _ _ e .1))) in
+    record { low = rw is (leb-true _ _ (a .0)); high = rw is (leb-true _ _ (a .1)) }
+
+pub accepted-output : (s : List ℕ) (i : ℕ) → circuitVerdict s ≡ fine → i < outputs s → OutputHolds s i
+unfolding circuitVerdict outputsVerdict
+accepted-output s i e h = go (named s) refl
+  where
+    all-fine : outputsVerdict s ≡ fine
+    all-fine = then-fine _ _ e .1
+
+    go : (b : Bool) → named s ≡ b → OutputHolds s i
+    go true is = named-holds s i (first-each (outputVerdict s) (outputs s) i (rw is at all-fine) h) (named-output s is i h)
+    go false is =
+        let z = accepted-header s e .sizes in
+        record { low = omega (arith, last-output s is i h); high = omega (arith, last-output s is i h, z .m-high) }
 
 -- ---- the circuit
 
@@ -129,7 +177,6 @@ within-each n (w ∷ ws) h =
 pub accepted-circuit : (s : List ℕ) → circuitVerdict s ≡ fine → CircuitHolds (circuitOf s)
 unfolding circuitOf
 accepted-circuit s e =
-    let z = accepted-header s e .sizes in
     let n = inputs s in
     let q = gates s in
     let first : gateWire n 0 ≡ suc n = omega arith in
@@ -138,5 +185,5 @@ accepted-circuit s e =
       outputs-within =
           rw (tabulate-length q (gateAt s))
           (within-each (n + q) (circuitOf s .outputs)
-          (λ i l. let h = rw (outputs-many s) at l in (output-low s i h, output-high s (omega (arith, z .m-high)) i h)));
+          (λ i l. let h = accepted-output s i e (rw (outputs-many s) at l) in (h .low, h .high)));
     }

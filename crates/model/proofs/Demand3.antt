@@ -16,7 +16,7 @@ use Rattle.model.specs.Material.{joinBlocks, material}
 use Rattle.model.specs.Evaluation.{encode, evaluate, decode, encodeBytes, evaluateBytes, decodeBytes, tokenAt, outputTokens}
 use Rattle.model.specs.Demand3.{Allowed, chained, chainMaterial, chainZeros, chainOnes, chainInputs, chainTokens, chainBits, carries, distanceAt, Demand3, OnlyRoom}
 use Rattle.model.specs.Refusals.{fine, refuse, _then_, seedVerdict, valueVerdict, bitsVerdict, valuesVerdict, tokensVerdict, schemeVerdict, materialVerdict}
-use Rattle.model.specs.Operations.{garbleVerdict, encodeVerdict, evaluateVerdict, decodeVerdict}
+use Rattle.model.specs.Operations.{garbleVerdict, encodeVerdict, evaluateVerdict, outputTokensVerdict, decodeVerdict}
 use Rattle.model.proofs.Lists.{tabulate-length}
 use Rattle.model.proofs.Outputs.{outputs-many}
 use Rattle.model.proofs.Tokens.{offset-is}
@@ -144,7 +144,7 @@ module _ (c seed : List ℕ) (want : Wanted) (values : List ℕ) (allowed : Allo
 
   -- ---- nothing but 19 refuses what is handed on
 
-  outputs-long : length (outputTokens (circuitOf c) (chainTokens c seed want values)) ≡ 16 * outputs c
+  pub outputs-long : length (outputTokens (circuitOf c) (chainTokens c seed want values)) ≡ 16 * outputs c
   unfolding outputTokens
   outputs-long =
       let within = holds .outputs-within in
@@ -164,13 +164,14 @@ module _ (c seed : List ℕ) (want : Wanted) (values : List ℕ) (allowed : Allo
   zeros-front = length-take-le _ _ (omega (arith, zeros-long))
 
   pub only-room : OnlyRoom c seed want values
-  unfolding garbleVerdict encodeVerdict evaluateVerdict decodeVerdict seedVerdict valuesVerdict schemeVerdict tokensVerdict refuse _then_
+  unfolding garbleVerdict encodeVerdict evaluateVerdict outputTokensVerdict decodeVerdict seedVerdict valuesVerdict schemeVerdict tokensVerdict refuse _then_
   only-room = record {
     garble-room = λ km kz ko.
         simp (allowed .accepted, eq-eqb _ _ (allowed .seed-bytes), le-leb _ _ (allowed .known .low), le-leb _ _ (allowed .known .high));
     encode-room = λ k.
         simp (allowed .accepted, eq-eqb _ _ (allowed .one-each), bits-fine, eq-eqb _ _ zeros-front, eq-eqb _ _ ones-long);
     evaluate-room = λ k. simp (allowed .accepted, eq-eqb _ _ inputs-long, material-fine);
+    output-tokens-room = λ k. simp (allowed .accepted, eq-eqb _ _ tokens-long);
     decode-room = λ k. simp (allowed .accepted, eq-eqb _ _ outputs-long, material-fine);
   }
 

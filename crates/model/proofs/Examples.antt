@@ -1,16 +1,16 @@
 -- The table of examples holds of the definitions. Assumes nothing.
 use mathlib.Core.Path.{refl}
 use Rattle.model.specs.Bytes.{be16, number, bytesOf}
-use Rattle.model.specs.Circuit.{value, kinds, kindOf, charges, markAt, inputs, outputs, gates, gateAt, lastWires, circuitOf, sizesHold, operandsHold, wires, gateValue, plainValues}
+use Rattle.model.specs.Circuit.{value, kinds, kindOf, charges, markAt, inputs, outputs, gates, named, gateAt, outputAt, lastWires, circuitOf, mostOutputs, sizesHold, circuitLength, operandsHold, wires, gateValue, plainValues}
 use Rattle.model.specs.Aes.{_⊕_, block, fixedKey, times, xtime, mulBits, gmul, squares, inverse, bit, affineBit, affineBits, sBox, double, quadruple}
 use Rattle.model.specs.Tokens.{runBlock}
 use Rattle.model.specs.Hashes.{hashBlock, hashCall, sigma, rekeyedCall}
-use Rattle.model.specs.Refusals.{refuse, _then_, firstOf, headVerdict, gateVerdict, recordVerdict, circuitVerdict, schemeVerdict}
+use Rattle.model.specs.Refusals.{refuse, _then_, firstOf, headVerdict, gateVerdict, recordVerdict, outputVerdict, outputsVerdict, circuitVerdict, schemeVerdict}
 use Rattle.model.specs.Operations.{sizesOf}
 use Rattle.model.specs.Examples.{Examples}
 
 pub examples : Examples
-unfolding be16 number bytesOf value kinds kindOf charges markAt inputs outputs gates gateAt lastWires circuitOf sizesHold operandsHold wires gateValue plainValues _⊕_ block fixedKey times xtime mulBits gmul squares inverse bit affineBit affineBits sBox double quadruple runBlock hashBlock hashCall sigma rekeyedCall refuse _then_ firstOf headVerdict gateVerdict recordVerdict circuitVerdict schemeVerdict sizesOf
+unfolding be16 number bytesOf value kinds kindOf charges markAt inputs outputs gates named gateAt outputAt lastWires circuitOf mostOutputs sizesHold circuitLength operandsHold wires gateValue plainValues _⊕_ block fixedKey times xtime mulBits gmul squares inverse bit affineBit affineBits sBox double quadruple runBlock hashBlock hashCall sigma rekeyedCall refuse _then_ firstOf headVerdict gateVerdict recordVerdict outputVerdict outputsVerdict circuitVerdict schemeVerdict sizesOf
 examples = record {
   P1 = refl;
   P2 = refl;
@@ -47,4 +47,12 @@ examples = record {
   under-fixed = refl;
   fourth-scheme = refl;
   fifth-scheme = refl;
+  named-check = refl;
+  named-outputs = refl;
+  output-mark = refl;
+  output-wire = refl;
+  output-wire-0 = refl;
+  first-output = refl;
+  more-than-wires = refl;
+  named-short = refl;
 }

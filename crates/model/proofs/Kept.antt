@@ -22,8 +22,8 @@ use Rattle.model.specs.HalfGates.{halfA, halfB, rowG, rowE, halfZero, ha
 use Rattle.model.specs.Garbling.{schemeOf, siteOf, zeroAt, zeroStep, zeroTokens, inputOnes}
 use Rattle.model.specs.Material.{recordOf, records, lastRecord, material}
 use Rattle.model.specs.Evaluation.{openAt, openStep, past, openGates, evaluate}
-use Rattle.model.specs.Refusals.{fine, isRefused, _then_, headVerdict, gateVerdict, recordVerdict, circuitVerdict, circuitSizes, schemeVerdict, rowStart, rowVerdict, materialVerdict}
-use Rattle.model.specs.Kept.{LeftRefused, ZeroPassedOn, TokenPassedOn, PassedOn, kinds01, kind01, kindValue, chargesBy, gateValueBy, gateVerdictBy, recordVerdictBy, circuitVerdictBy, rowVerdictBy, materialVerdictBy, offsetBy, inputZerosBy, inputOnesBy, siteBy, halfABy, halfBBy, rowGBy, rowEBy, halfBy, schemeBy, zeroAtBy, zeroStepBy, zeroTokensBy, recordOfBy, recordsBy, lastRecordBy, materialBy, openStepBy, openGatesBy, evaluateBy, SameBytes, seedBlock01, RunZero, hash01, scheme01, schemeVerdict01, OldSchemes}
+use Rattle.model.specs.Refusals.{fine, isRefused, _then_, gateVerdict, recordVerdict, outputsVerdict, circuitVerdict, circuitSizes, schemeVerdict, rowStart, rowVerdict, materialVerdict}
+use Rattle.model.specs.Kept.{LeftRefused, ZeroPassedOn, TokenPassedOn, PassedOn, kinds01, kind01, kindValue, headVerdict01, chargesBy, gateValueBy, gateVerdictBy, recordVerdictBy, circuitVerdictBy, rowVerdictBy, materialVerdictBy, offsetBy, inputZerosBy, inputOnesBy, siteBy, halfABy, halfBBy, rowGBy, rowEBy, halfBy, schemeBy, zeroAtBy, zeroStepBy, zeroTokensBy, recordOfBy, recordsBy, lastRecordBy, materialBy, openStepBy, openGatesBy, evaluateBy, SameBytes, seedBlock01, RunZero, hash01, scheme01, schemeVerdict01, OldSchemes}
 use Rattle.model.proofs.Bits.{Bit, b0, b1, bit-of, bit-small}
 use Rattle.model.proofs.Codes.{value-bit, past-table, in-table}
 use Rattle.model.proofs.Number.{leading-zeros}
@@ -34,6 +34,7 @@ use Rattle.model.proofs.Lengths.{input-zeros-blocks, zeros-blocks, open
 use Rattle.model.proofs.Accepted.{GateHolds, accepted-header, accepted-gate}
 use Rattle.model.proofs.Xor.{⊕-assoc, ⊕-zero}
 use Rattle.model.proofs.XorRules.{zero-⊕, ⊕-zero-right, times-0, times-1}
+use Rattle.model.proofs.OldMark.{not-named, head-same}
 use Rattle.model.proofs.Verdicts.{then-fine, refuse-fine, first-each, first-all, first-same}
 
 -- ---- left refused
@@ -376,10 +377,17 @@ module _ (c : List ℕ) (e : circuitVerdictBy kind01 c ≡ fine) where
   kinds-01 : (γ : Garbling) → γ .circuit ≡ circuitOf c → SameKinds kind01 (γ .circuit .gates)
   kinds-01 γ is-c = rw is-c (known-kinds (circuitOf c .gates) all-known)
 
+  still-accepted : circuitVerdict c ≡ fine
+  unfolding circuitVerdictBy circuitVerdict outputsVerdict _then_
+  still-accepted =
+      let head = then-fine (headVerdict01 c) _ e .0 in
+      let mark = not-named c head in
+      rw (head-same c mark, head, first-all (recordVerdict c (inputs c)) (gates c) gate-accepted, mark)
+
   pub same-bytes : SameBytes c
-  unfolding circuitVerdictBy circuitVerdict plainValues evaluate evaluateBy _then_
+  unfolding plainValues evaluate evaluateBy
   same-bytes = record {
-    accepted = rw (then-fine (headVerdict c) _ e .0) (first-all (recordVerdict c (inputs c)) (gates c) gate-accepted);
+    accepted = still-accepted;
     as-many = charges-same (circuitOf c .gates) all-known;
     values = λ vs b. values-same (circuitOf c .gates) vs all-known b;
     zeros = λ γ is-c. zero-tokens-same kind01 (seedBlock γ) γ (wiresOf γ) (λ i l. refl) (omega arith) (kinds-01 γ is-c);

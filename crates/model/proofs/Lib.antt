@@ -33,11 +33,14 @@ pub mod Outputs
 pub mod Accepted
 pub mod Holds
 pub mod Lengths
+pub mod Filling
 pub mod OneMore
 pub mod Places
 pub mod Chain
 pub mod OwnMaterial
 pub mod Records
 pub mod Demand3
+mod OldMark
 pub mod Kept
+mod StandsFor
 pub mod Runs

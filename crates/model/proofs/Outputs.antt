@@ -1,13 +1,13 @@
--- The outputs of the circuit that bytes are: how many, which wire each is, and where their tokens stand. The one file of laws that opens
--- `lastWires`. Assumes nothing.
+-- The outputs of the circuit that bytes are: how many, and which wire each is, by the mark. The one file of laws that opens `lastWires`. Assumes nothing.
 use Prim.Native.Nat.{ℕ, zero, suc, _+_, _*_, _-_, _≤_, _<_}
 use native.Mathlib.Omega.{arith}
-use mathlib.Core.Path.{_≡_, refl, sym, _∙_}
+use mathlib.Core.Path.{_≡_, refl, _∙_}
+use mathlib.Core.Bool.{Bool, true, false, cond}
 use mathlib.Core.List.{List, map}
-use lib.ListN.{length, getD, take, drop}
-use lib.Seq.{drop-drop, take-add}
-use Rattle.model.specs.Bytes.{from}
-use Rattle.model.specs.Circuit.{circuitOf, inputs, outputs, gates, lastWires}
+use lib.ListN.{length, getD, take, drop, length-drop}
+use lib.Seq.{drop-drop, take-add, take-all}
+use Rattle.model.specs.Bytes.{from, tabulate}
+use Rattle.model.specs.Circuit.{circuitOf, inputs, outputs, gates, named, outputAt, lastWires}
 use Rattle.model.specs.Material.{joinBlocks}
 use Rattle.model.specs.Evaluation.{tokenAt, outputTokens}
 use Rattle.model.proofs.Lists.{tabulate-length, entry}
@@ -26,31 +26,28 @@ module _ (bs : List ℕ) (k : ℕ) where
 module _ (c : List ℕ) where
   pub outputs-many : length (circuitOf c .outputs) ≡ outputs c
   unfolding circuitOf lastWires
-  outputs-many = tabulate-length (outputs c) _
+  outputs-many = go (named c)
+    where
+      go : (b : Bool) → length (cond b (tabulate (outputs c) (outputAt c)) (lastWires (inputs c) (gates c) (outputs c))) ≡ outputs c
+      go true = tabulate-length (outputs c) _
+      go false = tabulate-length (outputs c) _
 
-  -- output i, from 0
-  pub output-at : (i : ℕ) → i < outputs c → getD (circuitOf c .outputs) i 0 ≡ inputs c + gates c - outputs c + 1 + i
-  unfolding circuitOf lastWires
-  output-at i h = entry 0 (outputs c) _ i h
+  -- ---- output i, from 0, of a circuit that names its outputs
+  pub named-output : named c ≡ true → (i : ℕ) → i < outputs c → getD (circuitOf c .outputs) i 0 ≡ outputAt c i
+  unfolding circuitOf
+  named-output e i h = rw e (entry 0 (outputs c) _ i h)
 
-  -- each is a wire of the circuit
-  pub output-low : (i : ℕ) → i < outputs c → 1 ≤ getD (circuitOf c .outputs) i 0
-  output-low i h = omega (arith, output-at i h)
-
-  module _ (few : outputs c ≤ inputs c + gates c) where
-    pub output-high : (i : ℕ) → i < outputs c → getD (circuitOf c .outputs) i 0 ≤ inputs c + gates c
-    output-high i h = omega (arith, output-at i h)
+  -- ---- and of one that does not
+  module _ (e : named c ≡ false) where
+    pub last-output : (i : ℕ) → i < outputs c → getD (circuitOf c .outputs) i 0 ≡ inputs c + gates c - outputs c + 1 + i
+    unfolding circuitOf lastWires
+    last-output i h = rw e (entry 0 (outputs c) _ i h)
 
     -- their tokens are the last of all wires
-    pub output-part : (bs : List ℕ) → outputTokens (circuitOf c) bs ≡ take (16 * outputs c) (drop (16 * (inputs c + gates c) - 16 * outputs c) bs)
+    pub last-tokens : (few : outputs c ≤ inputs c + gates c) (bs : List ℕ) → length bs ≡ 16 * (inputs c + gates c)
+        → outputTokens (circuitOf c) bs ≡ drop (16 * (inputs c + gates c - outputs c)) bs
     unfolding outputTokens circuitOf lastWires
-    output-part bs =
-        let at : 16 * (inputs c + gates c) - 16 * outputs c ≡ 16 * (inputs c + gates c - outputs c + 0) = omega arith in
-        rw at (tokens-from bs (inputs c + gates c - outputs c) 0 (outputs c))
-
-    -- from the token of the first on
-    pub output-tokens : (bs : List ℕ) → 1 ≤ outputs c
-        → outputTokens (circuitOf c) bs ≡ take (16 * outputs c) (drop (16 * (getD (circuitOf c .outputs) 0 0 - 1)) bs)
-    output-tokens bs h =
-        let at : 16 * (getD (circuitOf c .outputs) 0 0 - 1) ≡ 16 * (inputs c + gates c) - 16 * outputs c = omega (arith, output-at 0 h) in
-        rw at (output-part bs)
+    last-tokens few bs long =
+        let k : ℕ = inputs c + gates c - outputs c in
+        let at : 16 * (k + 0) ≡ 16 * k = omega arith in
+        rw e (tokens-from bs k 0 (outputs c) ∙ rw at (take-all (16 * outputs c) (drop (16 * k) bs) (simp length-drop (omega (arith, long)))))

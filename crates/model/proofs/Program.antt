@@ -3,21 +3,21 @@ use Prim.Native.Nat.{ℕ, _≤_, _<_}
 use native.Mathlib.Omega.{arith}
 use mathlib.Core.Path.{_≡_, refl, ap, sym, _∙_}
 use mathlib.Core.Bool.{Bool, true, false}
-use mathlib.Core.List.{List, [], _∷_, _++_}
+use mathlib.Core.List.{List, [], _∷_}
 use lib.ListN.{length, take}
 use lib.Seq.{take-all, length-take-le}
 use lib.Dec.{ltb}
 use borrow.Author.Tests.{ltb-true, ltb-false, lt-ltb, le-ltb}
 use Rattle.model.specs.Bytes.{be16}
 use Rattle.model.specs.Decimal.{digit, digits, decimal}
-use Rattle.model.specs.Circuit.{kinds, kindOf, charges, markAt, inputs, outputs, gates, gateAt, lastWires, circuitOf, sizesHold, operandsHold}
+use Rattle.model.specs.Circuit.{kinds, kindOf, charges, markAt, inputs, outputs, gates, named, gateAt, lastWires, circuitOf, mostOutputs, sizesHold, circuitLength, operandsHold}
 use Rattle.model.specs.Scheme.{recordLength}
 use Rattle.model.specs.Gax.{gax}
 use Rattle.model.specs.Gaxr.{gaxr}
 use Rattle.model.specs.HalfGates.{half}
 use Rattle.model.specs.Garbling.{schemeOf}
 use Rattle.model.specs.Material.{materialLength}
-use Rattle.model.specs.Refusals.{refuse, _then_, firstOf, headVerdict, gateVerdict, recordVerdict, circuitVerdict}
+use Rattle.model.specs.Refusals.{refuse, _then_, firstOf, headVerdict, gateVerdict, recordVerdict, outputsVerdict, circuitVerdict}
 use Rattle.model.specs.Operations.{sizesOf}
 use Rattle.model.specs.Examples.{oneGate, p11}
 use Rattle.model.specs.Program.{line, sizesLine, lengthsLine, refusedWord, refusedLine, tooLongLine, checkText, programText}
@@ -50,5 +50,5 @@ pub record ProgramExamples : Type 0 where
       ≡ 0x72 ∷ 0x65 ∷ 0x66 ∷ 0x75 ∷ 0x73 ∷ 0x65 ∷ 0x64 ∷ 0x20 ∷ 0x37 ∷ 0x20 ∷ 0x33 ∷ 0x0A ∷ []
 
 pub program-examples : ProgramExamples
-unfolding be16 digit digits decimal kinds kindOf charges markAt inputs outputs gates gateAt lastWires circuitOf sizesHold operandsHold recordLength gax gaxr half schemeOf materialLength refuse _then_ firstOf headVerdict gateVerdict recordVerdict circuitVerdict sizesOf line sizesLine lengthsLine refusedWord refusedLine tooLongLine programText
+unfolding be16 digit digits decimal kinds kindOf charges markAt inputs outputs gates named gateAt lastWires circuitOf mostOutputs sizesHold circuitLength operandsHold recordLength gax gaxr half schemeOf materialLength refuse _then_ firstOf headVerdict gateVerdict recordVerdict outputsVerdict circuitVerdict sizesOf line sizesLine lengthsLine refusedWord refusedLine tooLongLine programText
 program-examples = record { P11-prints = refl; P12-prints = refl }

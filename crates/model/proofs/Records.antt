@@ -10,7 +10,7 @@ use lib.ListN.{length, getD, List·getD-append}
 use lib.Seq.{getD-append-add}
 use Rattle.model.specs.declared.Gate.{Gate}
 use Rattle.model.specs.Bytes.{be16, two}
-use Rattle.model.specs.Circuit.{markAt, inputs, outputs, gates, recordAt, gateAt, sizesHold, gateBytes, recordBytes, circuitBytes}
+use Rattle.model.specs.Circuit.{markAt, inputs, outputs, gates, named, recordAt, gateAt, sizesHold, circuitLength, gateBytes, recordBytes, circuitBytes}
 use Rattle.model.specs.Refusals.{fine, refuse, _then_, headVerdict}
 use Rattle.model.proofs.OwnMaterial.{two-back}
 
@@ -48,6 +48,11 @@ module _ (n m : ℕ) (gs : List Gate) where
   pub bytes-long : length (circuitBytes n m gs) ≡ 8 + 7 * length gs
   unfolding circuitBytes
   bytes-long = omega (arith, records-long gs)
+
+  -- they have the mark 43 48
+  pub not-named : named (circuitBytes n m gs) ≡ false
+  unfolding circuitBytes named markAt
+  not-named = refl
 
   -- byte i of gate record k
   byte-at : (k i : ℕ) → k < length gs → i < 7 → getD (circuitBytes n m gs) (recordAt k + i) 0 ≡ getD (gateBytes (getD gs k noGate)) i 0
@@ -98,19 +103,21 @@ module _ (n m : ℕ) (gs : List Gate) where
     gates-made = two-back (length gs) few
 
     -- of 1 to 4, only 3 can hold
-    pub head-made : headVerdict (circuitBytes n m gs) ≡ refuse (not (sizesHold n m (length gs))) 3 2
-    unfolding headVerdict _then_ refuse
+    pub head-made : headVerdict (circuitBytes n m gs) ≡ refuse (not (sizesHold false n m (length gs))) 3 2
+    unfolding headVerdict circuitLength _then_ refuse
     head-made =
         let long = bytes-long in
         let mark : markAt (circuitBytes n m gs) 0 0x43 0x48 ≡ true = unfold circuitBytes markAt in refl in
+        let by-name = not-named in
         rw (
           le-ltb (length (circuitBytes n m gs)) 8 (omega (arith, long)),
           mark,
+          by-name,
           inputs-made,
           outputs-made,
           gates-made,
           eq-eqb (length (circuitBytes n m gs)) (8 + 7 * length gs) long,
-        ) (either (sizesHold n m (length gs)))
+        ) (either (sizesHold false n m (length gs)))
       where
         either : (b : Bool) → (fine then fine then refuse (not b) 3 2 then fine) ≡ refuse (not b) 3 2
         either true = refl

@@ -1,7 +1,7 @@
--- Document 01, "Circuit": gates and their codes, the file, the limits, and what the plain circuit carries.
+-- Document 01, "Circuit": gates and their codes, the file, the limits, and what the plain circuit carries. Document 02, job 8: outputs by name.
 use Prim.Native.Nat.{ℕ, _+_, _*_, _/_, _%_, _^_, _-_}
 use mathlib.Core.List.{List, [], _∷_, _++_}
-use mathlib.Core.Bool.{Bool, _&&_}
+use mathlib.Core.Bool.{Bool, cond, _&&_}
 use lib.ListN.{length, getD}
 use lib.Dec.{leb, ltb, eqb}
 use Rattle.model.specs.declared.Gate.{Gate}
@@ -53,7 +53,7 @@ unfoldable pub charges : List Gate → ℕ
 charges [] = 0
 charges (g ∷ gs) = charge (kindOf (g .code)) + charges gs
 
--- ---- the file: a header of 8 bytes, and q gate records of 7 bytes
+-- ---- the file: a header of 8 bytes, q gate records of 7 bytes, and by the mark of 02, job 8, m output records of 4 bytes
 
 -- the two bytes at an index are this mark
 unfoldable pub markAt : List ℕ → ℕ → ℕ → ℕ → Bool
@@ -69,6 +69,10 @@ outputs s = be16 s 4
 unfoldable pub gates : List ℕ → ℕ
 gates s = be16 s 6
 
+-- 02, job 8: "A circuit whose header mark is 43 49"
+unfoldable pub named : List ℕ → Bool
+named s = markAt s 0 0x43 0x49
+
 -- gate record k, from 0: "mark 43 47, operands a and b of 2 bytes each, a code of 1 byte"
 abbrev pub recordAt : ℕ → ℕ
 recordAt k = 8 + 7 * k
@@ -80,19 +84,34 @@ gateAt s k = record { a = record { 0 = be16 s (recordAt k + 2) }; b = record { 0
 unfoldable pub lastWires : ℕ → ℕ → ℕ → List ℕ
 lastWires n q m = tabulate m (λ i. n + q - m + 1 + i)
 
--- the circuit that bytes are
+-- 02, job 8: "carries, after its gates, m output records: mark 43 4F and a wire number of 2 bytes". Record k, from 0
+abbrev pub outputRecordAt : List ℕ → ℕ → ℕ
+outputRecordAt s k = recordAt (gates s) + 4 * k
+
+unfoldable pub outputAt : List ℕ → ℕ → ℕ
+outputAt s k = be16 s (outputRecordAt s k + 2)
+
+-- the circuit that bytes are. "The output list replaces "the last m" in every operation; 43 48 circuits stand for the list of their last m wires."
 unfoldable pub circuitOf : List ℕ → Circuit
 circuitOf s = record {
   n = inputs s;
   gates = tabulate (gates s) (gateAt s);
-  outputs = lastWires (inputs s) (gates s) (outputs s);
+  outputs = cond (named s) (tabulate (outputs s) (outputAt s)) (lastWires (inputs s) (gates s) (outputs s));
 }
 
 -- ---- limits
 
+-- "m from 1 to q"; where outputs are named, "m is at most n+q" (02, job 8)
+unfoldable pub mostOutputs : Bool → ℕ → ℕ → ℕ
+mostOutputs by-name n q = cond by-name (n + q) q
+
 -- "n from 2 to 4,096; m from 1 to q; q at least 1; n+q at most 65,535"
-unfoldable pub sizesHold : ℕ → ℕ → ℕ → Bool
-sizesHold n m q = leb 2 n && leb n 4096 && leb 1 m && leb m q && leb 1 q && leb (n + q) 65535
+unfoldable pub sizesHold : Bool → ℕ → ℕ → ℕ → Bool
+sizesHold by-name n m q = leb 2 n && leb n 4096 && leb 1 m && leb m (mostOutputs by-name n q) && leb 1 q && leb (n + q) 65535
+
+-- "Its length is 8+7q."; where outputs are named, "the length is 8+7q+4m" (02, job 8)
+unfoldable pub circuitLength : Bool → ℕ → ℕ → ℕ
+circuitLength by-name m q = cond by-name (8 + 7 * q + 4 * m) (8 + 7 * q)
 
 -- "1 ≤ a < b < the gate's own wire number"
 unfoldable pub operandsHold : ℕ → Gate → Bool

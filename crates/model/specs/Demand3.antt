@@ -12,7 +12,7 @@ use Rattle.model.specs.Garbling.{Known, zeroTokens, inputOnes}
 use Rattle.model.specs.Material.{joinBlocks, material, materialLength}
 use Rattle.model.specs.Evaluation.{encodeBytes, evaluateBytes, decodeBytes, tokenAt, outputTokens}
 use Rattle.model.specs.Refusals.{fine, _then_, circuitVerdict, roomVerdict}
-use Rattle.model.specs.Operations.{garbleVerdict, encodeVerdict, evaluateVerdict, decodeVerdict}
+use Rattle.model.specs.Operations.{garbleVerdict, encodeVerdict, evaluateVerdict, outputTokensVerdict, decodeVerdict}
 
 -- "every accepted circuit, each scheme, every 16-byte seed and every list of input bits, one for each input"; and every run number (02, job 4), of
 -- which nothing is asked
@@ -65,7 +65,8 @@ module _ (c seed : List ℕ) (want : Wanted) (values : List ℕ) where
     pub at-one : (w : ℕ) → 1 ≤ w → w ≤ inputs c + gates c → (distanceAt w ≡ offset chained) ↔ (carries c values w ≡ 1)
     pub decoded : chainBits ≡ map (carries c values) (circuitOf c .outputs)
 
-  -- "With the arguments that demand 3 names, only 19 can refuse one of the four": each says what its buffers' rooms say
+  -- "With the arguments that demand 3 names, only 19 can refuse one of the four", nor what takes the outputs' tokens (02, job 8): each says what its
+  -- buffers' rooms say
   pub record OnlyRoom : Type 0 where
     pub garble-room : (km kz ko : ℕ) → garbleVerdict c seed want km kz ko
         ≡ (roomVerdict (materialLength (want .scheme) (outputs c) (charges (circuitOf c .gates))) km
@@ -73,4 +74,5 @@ module _ (c seed : List ℕ) (want : Wanted) (values : List ℕ) where
         then roomVerdict (16 * inputs c) ko)
     pub encode-room : (k : ℕ) → encodeVerdict c values (take (16 * inputs c) chainZeros) chainOnes k ≡ roomVerdict (16 * inputs c) k
     pub evaluate-room : (k : ℕ) → evaluateVerdict c chainInputs chainMaterial k ≡ roomVerdict (16 * (inputs c + gates c)) k
+    pub output-tokens-room : (k : ℕ) → outputTokensVerdict c chainTokens k ≡ roomVerdict (16 * outputs c) k
     pub decode-room : (k : ℕ) → decodeVerdict c (outputTokens (circuitOf c) chainTokens) chainMaterial k ≡ roomVerdict (outputs c) k

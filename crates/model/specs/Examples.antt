@@ -1,5 +1,5 @@
 -- Document 01, "Table of examples": those marked P, and the limits; and of document 02, job 2, a gate of one operand, job 4, the block that is
--- enciphered under the seed, and job 7, what the hashes encipher. The theorem is `examples` of proofs/Examples.antt.
+-- enciphered under the seed, job 7, what the hashes encipher, and job 8, outputs by name. The theorem is `examples` of proofs/Examples.antt.
 use Prim.Native.Nat.{ℕ}
 use mathlib.Core.Path.{_≡_}
 use mathlib.Core.Bool.{true, false}
@@ -19,6 +19,12 @@ oneGate a b code = 0x43 ∷ 0x48 ∷ 0x00 ∷ 0x02 ∷ 0x00 ∷ 0x01 ∷ 0x00 �
 
 abbrev pub p11 : List ℕ
 p11 = oneGate 0x01 0x02 0x08
+
+-- P11's circuit with three outputs by name: its gate's wire, an input under a mark 43 y, and a wire w; m is what its header says of them
+abbrev pub namedGate : ℕ → ℕ → ℕ → List ℕ
+namedGate m y w =
+    0x43 ∷ 0x49 ∷ 0x00 ∷ 0x02 ∷ 0x00 ∷ m ∷ 0x00 ∷ 0x01 ∷ 0x43 ∷ 0x47 ∷ 0x00 ∷ 0x01 ∷ 0x00 ∷ 0x02 ∷ 0x08
+    ∷ 0x43 ∷ 0x4F ∷ 0x00 ∷ 0x03 ∷ 0x43 ∷ y ∷ 0x00 ∷ 0x01 ∷ 0x43 ∷ 0x4F ∷ 0x00 ∷ w ∷ []
 
 -- 80 and fifteen 00
 abbrev pub highest : Block
@@ -53,10 +59,10 @@ pub record Examples : Type 0 where
   pub P14 : checkAnswer (take 14 p11) ≡ no (refused 4 14)
   pub P14-short : checkAnswer (take 7 p11) ≡ no (refused 1 7)
   -- "n=4,096 with q=61,439 passes refusal 3; q=61,440 doesn't. n=1 or m=2, q=1: refusal 3."
-  pub largest : sizesHold 4096 1 61439 ≡ true
-  pub too-many-gates : sizesHold 4096 1 61440 ≡ false
-  pub too-few-inputs : sizesHold 1 1 1 ≡ false
-  pub too-many-outputs : sizesHold 2 2 1 ≡ false
+  pub largest : sizesHold false 4096 1 61439 ≡ true
+  pub too-many-gates : sizesHold false 4096 1 61440 ≡ false
+  pub too-few-inputs : sizesHold false 1 1 1 ≡ false
+  pub too-many-outputs : sizesHold false 2 2 1 ≡ false
   -- 02, job 2: P11's circuit with a gate that uses one operand, and what stays refused
   pub negated-check : checkAnswer (oneGate 0x01 0x02 0x03) ≡ yes (record { n = 2; m = 1; q = 1; p = 0 })
   pub negated-plain : plainValues (circuitOf (oneGate 0x01 0x02 0x03)) (0 ∷ 1 ∷ []) ≡ 0 ∷ 1 ∷ 1 ∷ []
@@ -75,3 +81,12 @@ pub record Examples : Type 0 where
   pub under-fixed : hashCall highest 6 ≡ record { key = counted; input = replicate 15 0x00 ++ (0x81 ∷ []) }
   pub fourth-scheme : schemeVerdict 4 ≡ fine
   pub fifth-scheme : schemeVerdict 5 ≡ refused 14 5
+  -- 02, job 8: an input and a repeat among the outputs, and what refuses them
+  pub named-check : checkAnswer (namedGate 0x03 0x4F 0x03) ≡ yes (record { n = 2; m = 3; q = 1; p = 1 })
+  pub named-outputs : circuitOf (namedGate 0x03 0x4F 0x03) .outputs ≡ 3 ∷ 1 ∷ 3 ∷ []
+  pub output-mark : checkAnswer (namedGate 0x03 0x47 0x03) ≡ no (refused 25 2)
+  pub output-wire : checkAnswer (namedGate 0x03 0x4F 0x04) ≡ no (refused 26 3)
+  pub output-wire-0 : checkAnswer (namedGate 0x03 0x4F 0x00) ≡ no (refused 26 3)
+  pub first-output : checkAnswer (namedGate 0x03 0x47 0x04) ≡ no (refused 25 2)
+  pub more-than-wires : checkAnswer (namedGate 0x04 0x4F 0x03) ≡ no (refused 3 2)
+  pub named-short : checkAnswer (take 26 (namedGate 0x03 0x4F 0x03)) ≡ no (refused 4 26)

@@ -1,14 +1,16 @@
 -- What document 02 says of what was there before, a part for each job that says so. The theorems are in proofs/Kept.antt.
 use Prim.Native.Nat.{ℕ, _+_, _*_, _-_, _≤_, _<_}
 use mathlib.Core.Path.{_≡_}
-use mathlib.Core.Bool.{not, cond, _&&_, _||_}
+use mathlib.Core.Logic.{_↔_}
+use mathlib.Core.Bool.{Bool, true, not, cond, _&&_, _||_}
 use mathlib.Core.List.{List, [], _∷_, _++_, map}
 use lib.Bits.{differ}
-use lib.Dec.{eqb, leb}
+use lib.Dec.{eqb, leb, ltb}
 use lib.ListN.{length, getD, take, drop}
 use Rattle.model.specs.declared.Gate.{Gate}
+use Rattle.model.specs.declared.Wanted.{Wanted}
 use Rattle.model.specs.Bytes.{tabulate, two}
-use Rattle.model.specs.Circuit.{Circuit, Kind, charged, free, refused, circuitOf, kindOf, charge, charges, codeAt, markAt, inputs, gates, recordAt, gateAt, operandsHold, gateWire, wire, wires, plainValues}
+use Rattle.model.specs.Circuit.{Circuit, Kind, charged, free, refused, circuitOf, kindOf, charge, charges, codeAt, markAt, inputs, outputs, gates, named, recordAt, gateAt, lastWires, operandsHold, gateWire, wire, wires, plainValues}
 use Rattle.model.specs.Aes.{Block, _⊕_, block, times, aes, π, double}
 use Rattle.model.specs.Tokens.{Garbling, colour, coloured, seedBlock, offset, inputZeros, freeZero}
 use Rattle.model.specs.Scheme.{Site, Scheme}
@@ -18,8 +20,9 @@ use Rattle.model.specs.Hashes.{hashOf}
 use Rattle.model.specs.HalfGates.{alpha, beta, gamma, generatorTweak, evaluatorTweak, joined, half}
 use Rattle.model.specs.Garbling.{own, schemeOf, zeroStep, zeroTokens, inputOnes}
 use Rattle.model.specs.Material.{joinBlocks, lastStart, header, material}
-use Rattle.model.specs.Evaluation.{cut, openAt, openStep, past, openGates, evaluate}
-use Rattle.model.specs.Refusals.{Verdict, fine, refuse, _then_, firstOf, isRefused, isCharged, headVerdict, circuitVerdict, schemeVerdict, fileVerdict, rowRecordAt, lastVerdict, materialVerdict}
+use Rattle.model.specs.Evaluation.{cut, openAt, openStep, past, openGates, evaluate, outputTokens}
+use Rattle.model.specs.Refusals.{Verdict, fine, refuse, _then_, firstOf, isRefused, isCharged, circuitVerdict, schemeVerdict, fileVerdict, rowRecordAt, lastVerdict, materialVerdict}
+use Rattle.model.specs.Operations.{Answer, Made, sizesOf, PlainIs, GarbleIs, EncodeIs, EvaluateIs, OutputTokensIs, DecodeIs}
 
 -- ==== Job 2, gates that use one operand
 
@@ -70,6 +73,17 @@ kindValue (charged u v x) a b = cond (eqb a u && eqb b v) x (1 - x)
 kindValue (free p q c) a b = differ (differ (p * a) (q * b)) c
 kindValue refused a b = 0
 
+-- 01's own 1 to 4, "Turned down, by number": of mark 43 48 alone, with "m from 1 to q" and "Its length is 8+7q."
+unfoldable pub sizesHold01 : ℕ → ℕ → ℕ → Bool
+sizesHold01 n m q = leb 2 n && leb n 4096 && leb 1 m && leb m q && leb 1 q && leb (n + q) 65535
+
+unfoldable pub headVerdict01 : List ℕ → Verdict
+headVerdict01 s =
+    refuse (ltb (length s) 8) 1 (length s)
+    then refuse (not (markAt s 0 0x43 0x48)) 2 0
+    then refuse (not (sizesHold01 (inputs s) (outputs s) (gates s))) 3 2
+    then refuse (not (eqb (length s) (8 + 7 * gates s))) 4 (length s)
+
 -- What a rule B for the blocks under the seed gives: the definitions that ask for such a block, each as it stands in the file named, with
 -- B i in the place of seedBlock γ i.
 module _ (B : ℕ → Block) where
@@ -116,7 +130,7 @@ module _ (K : ℕ → Kind) where
       then gateVerdictBy (gateWire n k) (gateAt s k)
 
   unfoldable pub circuitVerdictBy : List ℕ → Verdict
-  circuitVerdictBy s = headVerdict s then firstOf (recordVerdictBy s (inputs s)) (gates s)
+  circuitVerdictBy s = headVerdict01 s then firstOf (recordVerdictBy s (inputs s)) (gates s)
 
   -- Refusals: 12 to 18
   unfoldable pub rowVerdictBy : Circuit → List ℕ → ℕ → Verdict
@@ -242,3 +256,40 @@ schemeVerdict01 scheme = refuse (not (leb 1 scheme && leb scheme 3)) 14 scheme
 pub record OldSchemes : Type 0 where
   pub steps : (k : ℕ) → (k ≡ 4 → ⊥) → schemeOf k ≡ scheme01 k
   pub refused-too : (k : ℕ) → (k ≡ 4 → ⊥) → schemeVerdict k ≡ schemeVerdict01 k
+
+-- ==== Job 8, outputs by name
+
+-- ---- A circuit of another mark than 43 49 is refused as by 01's header, with the table of kinds of today, and is the circuit that it was: its outputs
+-- are "The last m wires". Every answer and every byte of an operation go by these two. If it is accepted, the tokens that decode gets are the last of all
+-- wires' tokens ws.
+pub record OldMark (s : List ℕ) : Type 0 where
+  pub refusals : circuitVerdict s ≡ circuitVerdictBy kindOf s
+  pub circuit : circuitOf s ≡ record { n = inputs s; gates = tabulate (gates s) (gateAt s); outputs = lastWires (inputs s) (gates s) (outputs s) }
+  pub last-tokens : circuitVerdict s ≡ fine → (ws : List ℕ) → length ws ≡ 16 * (inputs s + gates s)
+      → outputTokens (circuitOf s) ws ≡ drop (16 * (inputs s + gates s - outputs s)) ws
+
+-- ---- "43 48 circuits stand for the list of their last m wires"
+
+-- the output records of wires
+unfoldable pub outputBytes : List ℕ → List ℕ
+outputBytes [] = []
+outputBytes (w ∷ ws) = 0x43 ∷ 0x4F ∷ two w ++ outputBytes ws
+
+-- the circuit of mark 43 49 that is made from one of mark 43 48: the same bytes, and its last m wires by name
+unfoldable pub namedOf : List ℕ → List ℕ
+namedOf s = 0x43 ∷ 0x49 ∷ drop 2 s ++ outputBytes (lastWires (inputs s) (gates s) (outputs s))
+
+-- An accepted circuit s of mark 43 48 and the one made from it are the same circuit of the same sizes, both accepted. Every operation answers and leaves
+-- the same of both.
+pub record StandsFor (s : List ℕ) : Type 0 where
+  pub by-name : named (namedOf s) ≡ true
+  pub accepted : circuitVerdict (namedOf s) ≡ fine
+  pub same-circuit : circuitOf (namedOf s) ≡ circuitOf s
+  pub same-sizes : sizesOf (namedOf s) ≡ sizesOf s
+  pub plain : (v o : List ℕ) (r : Verdict) (x : List ℕ) → PlainIs s v o r x ↔ PlainIs (namedOf s) v o r x
+  pub garble : (seed : List ℕ) (want : Wanted) (m z o : List ℕ) (r : Answer Made) (m′ z′ o′ : List ℕ)
+      → GarbleIs s seed want m z o r m′ z′ o′ ↔ GarbleIs (namedOf s) seed want m z o r m′ z′ o′
+  pub encode : (v zs os o : List ℕ) (r : Verdict) (x : List ℕ) → EncodeIs s v zs os o r x ↔ EncodeIs (namedOf s) v zs os o r x
+  pub evaluate : (ts f o : List ℕ) (r : Answer ℕ) (x : List ℕ) → EvaluateIs s ts f o r x ↔ EvaluateIs (namedOf s) ts f o r x
+  pub output-tokens : (ws o : List ℕ) (r : Verdict) (x : List ℕ) → OutputTokensIs s ws o r x ↔ OutputTokensIs (namedOf s) ws o r x
+  pub decode : (ts f o : List ℕ) (r : Verdict) (x : List ℕ) → DecodeIs s ts f o r x ↔ DecodeIs (namedOf s) ts f o r x

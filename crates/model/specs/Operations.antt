@@ -17,7 +17,7 @@ use Rattle.model.specs.Circuit.{charges, circuitOf, inputs, outputs, gat
 use Rattle.model.specs.Tokens.{garblingOf, inputZeros}
 use Rattle.model.specs.Garbling.{zeroTokens, inputOnes}
 use Rattle.model.specs.Material.{materialLength, joinBlocks, material}
-use Rattle.model.specs.Evaluation.{cut, encodeBytes, evaluateBytes, decodeBytes, tokenAt}
+use Rattle.model.specs.Evaluation.{cut, encodeBytes, evaluateBytes, decodeBytes, tokenAt, outputTokens}
 use Rattle.model.specs.Calls.{garbleCalls, evaluateCalls}
 use Rattle.model.specs.Refusals.{Verdict, fine, refused, refuse, _then_, verdictOf, circuitVerdict, seedVerdict, valuesVerdict, tokensVerdict, schemeVerdict, materialVerdict, roomVerdict, pickVerdict}
 
@@ -54,7 +54,7 @@ abbrev pub ranOf : Ran → Verdict
 ranOf Ran.Done = fine
 ranOf (Ran.Refused f) = verdictOf f
 
--- 1 to 7, 9, 10, 19: c is the circuit's bytes, v the value list, and room the length of the buffer
+-- 1 to 7, 25, 26, 9, 10, 19: c is the circuit's bytes, v the value list, and room the length of the buffer
 unfoldable pub plainVerdict : List ℕ → List ℕ → ℕ → Verdict
 plainVerdict c v room =
     circuitVerdict c
@@ -69,7 +69,7 @@ pub record PlainIs (c v o : List ℕ) (r : Verdict) (x : List ℕ) : Type 0 wher
 -- ---- "Garble (circuit, seed, scheme as a byte): material; zero tokens of all wires, 16(n+q) bytes; one tokens of the inputs, 16n bytes"; "Garbling
 -- takes a run number of 64 bits" (02, job 4), of which no verdict speaks
 
--- 1 to 7, 8, 14, and 19 for the three buffers in turn, of the lengths km, kz and ko
+-- 1 to 7, 25, 26, 8, 14, and 19 for the three buffers in turn, of the lengths km, kz and ko
 unfoldable pub garbleVerdict : List ℕ → List ℕ → Wanted → ℕ → ℕ → ℕ → Verdict
 garbleVerdict c seed want km kz ko =
     circuitVerdict c
@@ -101,7 +101,7 @@ pub record GarbleIs (c seed : List ℕ) (want : Wanted) (m z o : List ℕ) (r : 
 
 -- ---- "Encode (circuit, values, the inputs' zero and one lists): 16n bytes"
 
--- 1 to 7, 9, 10, 11 for the two lists in turn, 19
+-- 1 to 7, 25, 26, 9, 10, 11 for the two lists in turn, 19
 unfoldable pub encodeVerdict : List ℕ → List ℕ → List ℕ → List ℕ → ℕ → Verdict
 encodeVerdict c v zs os room =
     circuitVerdict c
@@ -116,7 +116,7 @@ pub record EncodeIs (c v zs os o : List ℕ) (r : Verdict) (x : List ℕ) : Type
 
 -- ---- "Evaluate (circuit, input tokens, material): tokens of all wires, 16(n+q) bytes; returns the calls of π"
 
--- 1 to 7, 11, 12 to 18, 19
+-- 1 to 7, 25, 26, 11, 12 to 18, 19
 unfoldable pub evaluateVerdict : List ℕ → List ℕ → List ℕ → ℕ → Verdict
 evaluateVerdict c ts s room =
     circuitVerdict c
@@ -147,9 +147,24 @@ pub record EvaluateGatesIs (n m : ℕ) (gs : List Gate) (ts s o : List ℕ) (r :
   pub answered : r ≡ answer (evaluateGatesVerdict n m gs ts s (length o)) (evaluateCallsOf (circuitBytes n m gs) ts s)
   pub left : x ≡ written (evaluateGatesVerdict n m gs ts s (length o)) (evaluateBytes (circuitOf (circuitBytes n m gs)) ts s) o
 
+-- ---- the outputs' tokens among those of all wires, 16(n+q) bytes, in the order of the outputs: 16m bytes, what decode gets (02, job 8: "Decoded bits
+-- follow the list's order.")
+
+-- 1 to 7, 25, 26, 11, 19
+unfoldable pub outputTokensVerdict : List ℕ → List ℕ → ℕ → Verdict
+outputTokensVerdict c ws room =
+    circuitVerdict c
+    then tokensVerdict (inputs c + gates c) ws
+    then roomVerdict (16 * outputs c) room
+
+-- the answer r, and the buffer, o at entry and x at exit; ws are the tokens of all wires
+pub record OutputTokensIs (c ws o : List ℕ) (r : Verdict) (x : List ℕ) : Type 0 where
+  pub answered : r ≡ outputTokensVerdict c ws (length o)
+  pub left : x ≡ written (outputTokensVerdict c ws (length o)) (outputTokens (circuitOf c) ws) o
+
 -- ---- "Decode (circuit, output tokens of 16m bytes, material): m bytes"
 
--- 1 to 7, 11, 12 to 18, 19
+-- 1 to 7, 25, 26, 11, 12 to 18, 19
 unfoldable pub decodeVerdict : List ℕ → List ℕ → List ℕ → ℕ → Verdict
 decodeVerdict c ts s room =
     circuitVerdict c

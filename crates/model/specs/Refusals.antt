@@ -1,16 +1,16 @@
--- Document 01, "Turned down, by number".
+-- Document 01, "Turned down, by number"; and of document 02, job 8, 25 and 26.
 use Prim.Native.Nat.{ℕ, zero, suc, _+_, _*_, _%_}
 use mathlib.Core.List.{List}
-use mathlib.Core.Bool.{Bool, true, false, not, _&&_}
+use mathlib.Core.Bool.{Bool, true, false, not, cond, _&&_, _||_}
 use lib.ListN.{length, getD, take}
 use lib.Dec.{ltb, leb, eqb}
 use Rattle.model.specs.declared.Gate.{Gate}
 use Rattle.model.specs.declared.Sizes.{Sizes}
 use Rattle.model.specs.declared.Refusal.{Refusal}
-use Rattle.model.specs.declared.Refusal.the-variants.{CircuitShort, CircuitMark, Limits, CircuitLength, GateMark, Operands, Code, SeedLength, ValuesLength, Value, TokensLength, MaterialShort, MaterialMark, Scheme, MaterialSizes, MaterialLength, RowRecord, LastRecord, Room, PickWire}
+use Rattle.model.specs.declared.Refusal.the-variants.{CircuitShort, CircuitMark, Limits, CircuitLength, GateMark, Operands, Code, SeedLength, ValuesLength, Value, TokensLength, MaterialShort, MaterialMark, Scheme, MaterialSizes, MaterialLength, RowRecord, LastRecord, Room, PickWire, OutputMark, OutputWire}
 use Rattle.model.specs.Bytes.{be16}
 use Rattle.model.specs.Circuit as C
-use Rattle.model.specs.Circuit.{Circuit, Kind, kindOf, charges, codeAt, markAt, inputs, outputs, gates, recordAt, gateAt, sizesHold, operandsHold, gateWire}
+use Rattle.model.specs.Circuit.{Circuit, Kind, kindOf, charges, codeAt, markAt, inputs, outputs, gates, named, recordAt, gateAt, outputRecordAt, outputAt, sizesHold, circuitLength, operandsHold, gateWire}
 use Rattle.model.specs.Material.{lastStart, materialLength}
 
 -- "A refusal is its number and a place"; `fine` is none
@@ -57,6 +57,8 @@ numberOf (RowRecord w) = 17
 numberOf (LastRecord at) = 18
 numberOf (Room l) = 19
 numberOf (PickWire w) = 20
+numberOf (OutputMark k) = 25
+numberOf (OutputWire k) = 26
 
 abbrev pub placeOf : Refusal → ℕ
 placeOf (CircuitShort l) = l
@@ -79,19 +81,21 @@ placeOf (RowRecord w) = w .0
 placeOf (LastRecord at) = at
 placeOf (Room l) = l
 placeOf (PickWire w) = w .0
+placeOf (OutputMark k) = k
+placeOf (OutputWire k) = k
 
 -- the verdict that a refusal of the code is
 abbrev pub verdictOf : Refusal → Verdict
 verdictOf f = refused (numberOf f) (placeOf f)
 
--- ---- 1 to 4: the circuit's header
+-- ---- 1 to 4: the circuit's header. "A circuit whose header mark is 43 49 ..; refusals 2, 3 and 4 read so." (02, job 8)
 
 unfoldable pub headVerdict : List ℕ → Verdict
 headVerdict s =
     refuse (ltb (length s) 8) 1 (length s)
-    then refuse (not (markAt s 0 0x43 0x48)) 2 0
-    then refuse (not (sizesHold (inputs s) (outputs s) (gates s))) 3 2
-    then refuse (not (eqb (length s) (8 + 7 * gates s))) 4 (length s)
+    then refuse (not (markAt s 0 0x43 0x48 || named s)) 2 0
+    then refuse (not (sizesHold (named s) (inputs s) (outputs s) (gates s))) 3 2
+    then refuse (not (eqb (length s) (circuitLength (named s) (outputs s) (gates s)))) 4 (length s)
 
 -- ---- 5 to 7: "Gates are searched in file order; the search leaves at the first gate with a fault, and that gate's lowest number is given."
 
@@ -121,9 +125,21 @@ recordVerdict s n k =
 abbrev pub gatesVerdict : List ℕ → ℕ → ℕ → Verdict
 gatesVerdict s n k = firstOf (recordVerdict s n) k
 
--- 1 to 7. "A circuit is accepted if none of the conditions that check tries holds."
+-- ---- 25 and 26 (02, job 8)
+
+-- of output record k, from 0: "25 when an output record's mark differs (output from 1), 26 when its wire is 0 or above n+q (output)"
+unfoldable pub outputVerdict : List ℕ → ℕ → Verdict
+outputVerdict s k =
+    refuse (not (markAt s (outputRecordAt s k) 0x43 0x4F)) 25 (k + 1)
+    then refuse (not (leb 1 (outputAt s k) && leb (outputAt s k) (inputs s + gates s))) 26 (k + 1)
+
+-- "the first faulty record deciding, by its lower number"; a circuit of mark 43 48 has no output record
+unfoldable pub outputsVerdict : List ℕ → Verdict
+outputsVerdict s = cond (named s) (firstOf (outputVerdict s) (outputs s)) fine
+
+-- 1 to 7, and 25 and 26 "right after 7". "A circuit is accepted if none of the conditions that check tries holds."
 unfoldable pub circuitVerdict : List ℕ → Verdict
-circuitVerdict s = headVerdict s then gatesVerdict s (inputs s) (gates s)
+circuitVerdict s = headVerdict s then gatesVerdict s (inputs s) (gates s) then outputsVerdict s
 
 -- ---- 8: "The seed is not 16 bytes (its length)."
 

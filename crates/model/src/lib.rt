@@ -28,7 +28,7 @@ pub enum Kind {
     Refused,
 }
 
-// A refusal, a case for each number of 01's list, with what its place is made from.
+// A refusal, a case for each number of 01's list and of 02's, with what its place is made from.
 // `numberOf` and `placeOf` of specs/Refusals.antt give each case its number and its place.
 pub enum Refusal {
     CircuitShort(usize),
@@ -51,6 +51,8 @@ pub enum Refusal {
     LastRecord(usize),
     Room(usize),
     PickWire(Wire),
+    OutputMark(usize),
+    OutputWire(usize),
 }
 
 // A circuit's sizes: inputs, outputs, gates, charged gates (01, Circuit).
