@@ -11,7 +11,7 @@ use Rattle.model.specs.declared.Gate.{Gate}
 use Rattle.model.specs.Bytes.{tabulate, over}
 use Rattle.model.specs.Circuit.{value, wires, gateValue, circuitOf, plainValues, inputs, gates, gateAt, gateWire}
 use Rattle.model.specs.Refusals.{fine, refused, refuse, firstOf, valueVerdict, bitsVerdict}
-use Rattle.model.proofs.Accepted.{HeaderHolds, GateHolds, accepted-header, accepted-gate}
+use Rattle.model.proofs.Accepted.{HeaderHolds, GateHolds, accepted-header, gates-inside, accepted-gate}
 use Rattle.model.proofs.Lists.{tabulate-snoc, tabulate-length}
 use Rattle.model.proofs.Buffers.{over-get, over-set}
 use Rattle.model.proofs.Circuits.{wires-snoc, wires-length}
@@ -94,7 +94,7 @@ module _ (c o : List ℕ) (n q : ℕ) (start : PlainStart c o n q) where
   -- gate k as it was read
   module _ (k : ℕ) (more : k < q) where
     pub gate-room : 8 + 7 * k + 7 ≤ length c
-    gate-room = omega (arith, in-circuit .whole, start .is-q)
+    gate-room = omega (arith, gates-inside c in-circuit, start .is-q)
 
     pub gate-small : k < 65536
     gate-small = omega (arith, in-circuit .sizes .sum, start .is-q)

@@ -77,7 +77,7 @@ pub fn read_record(circuit: &[u8], n: usize, k: usize) -> GateRead
 // The search over the gate records, in file order: it leaves at the first gate with a fault, and counts the charged
 // gates on its way (01, Turned down, by number).
 pub fn search_gates(circuit: &[u8], n: usize, q: usize) -> Searched
-    requires { ⌜ (length (now circuit) ≡ 8 + 7 * q) × (n + q ≤ 65535) ⌝ }
+    requires { ⌜ (8 + 7 * q ≤ length (now circuit)) × (n + q ≤ 65535) ⌝ }
     ensures { λ r. ⌜ searchOf r ≡ searchAnswer (now (circuit .entry)) n q ⌝ }
 {
     let mut k: usize = 0;

@@ -39,5 +39,7 @@ pub fn number_and_place(f: Refusal) -> Turned
         Refusal::LastRecord(at) => numbered(18, at),
         Refusal::Room(l) => numbered(19, l),
         Refusal::PickWire(w) => numbered(20, w.0 as usize),
+        Refusal::OutputMark(k) => numbered(25, k),
+        Refusal::OutputWire(k) => numbered(26, k),
     }
 }

@@ -1,4 +1,3 @@
-use Rattle.model.specs.Circuit.{markAt}
 use Rattle.model.specs.Refusals.{headVerdict}
 use Rattle.model.proofs.Conditions.{conditions}
 use Rattle.circuit.proofs.HeaderLaws.{header-cases}
@@ -7,10 +6,9 @@ use Rattle.circuit.proofs.header.read_header.Statement.{statement}
 use Rattle.circuit.proofs.header.read_header.Tie as tie
 
 pub read-header-spec : {M : Type 1} → statement M
-unfolding headVerdict markAt
+unfolding headVerdict
 read-header-spec =
     tie.close
-    (tie.spec (λ c. search conditions depth 10) (λ c. search needs) (λ c. search conditions depth 10) (λ c. search needs)
-    (λ c. search conditions depth 10) (λ c κs. search needs) (λ c. search needs) (λ c κs. search needs) (λ c. search needs)
-    (λ c κs. search needs) (λ c. search needs) (λ c κs. search needs) (λ c. search needs) (λ c. search needs)
-    (λ c. search header-cases) (λ c. search header-cases) (λ c. search header-cases))
+    (tie.spec (λ c. search conditions depth 10) (λ c κs. search needs) (λ c. search header-cases) (λ c κs. search needs)
+    (λ c κs. search needs) (λ c. search needs) (λ c κs. search needs) (λ c. search needs) (λ c κs. search needs) (λ c. search needs)
+    (λ c κs. search needs) (λ c κs. search needs) (λ c. search header-cases) (λ c. search header-cases) (λ c. search header-cases))
