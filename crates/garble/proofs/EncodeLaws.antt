@@ -12,8 +12,8 @@ use Rattle.model.specs.Evaluation.{cut, encode}
 use Rattle.model.proofs.Lists.{from-cong}
 use Rattle.model.proofs.Tokens.{block-length}
 use Rattle.model.proofs.Blocks.{Blocks, none, more, cut-at, cut-blocks}
+use Rattle.model.proofs.Filling.{Filling, fill-start, fill-turn, fill-end}
 use Rattle.garble.specs.Written.{inputToken, TokenRoom, EncodeStart}
-use Rattle.garble.proofs.BlockLaws.{Filling, fill-start, fill-turn, fill-end}
 
 -- ---- input_token
 module _ (v : ℕ) (z o : List ℕ) (i : ℕ) (x : Block) where

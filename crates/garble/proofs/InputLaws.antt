@@ -8,9 +8,9 @@ use Rattle.model.specs.Bytes.{put}
 use Rattle.model.specs.Aes.{Block, _⊕_, cipher, addRoundKey}
 use Rattle.model.specs.Tokens.{runBlock}
 use Rattle.model.proofs.Xor.{⊕-length}
+use Rattle.model.proofs.Filling.{Filling, fill-start, fill-turn, fill-end}
 use Rattle.garble.specs.Written.{InputsRoom, inputZero, InputsIs}
 use Rattle.garble.specs.declared.plan.Plan.{Plan}
-use Rattle.garble.proofs.BlockLaws.{Filling, fill-start, fill-turn, fill-end}
 
 -- both lists: z and o at the start, z′ and o′ after i inputs
 pub record Inputs (w : List ℕ) (p : Plan) (z o : List ℕ) (i : ℕ) (z′ o′ : List ℕ) : Type 0 where

@@ -8,12 +8,13 @@ use lib.ListN.{length, getD, take, drop, set, length-set, length-map}
 use lib.Seq.{set-split, drop-drop}
 use Rattle.model.specs.declared.Sizes.{Sizes}
 use Rattle.model.specs.Bytes.{tabulate, over, put}
-use Rattle.model.specs.Circuit.{circuitOf, inputs, outputs, gates}
+use Rattle.model.specs.Circuit.{circuitOf, outputs}
 use Rattle.model.specs.Tokens.{colour}
 use Rattle.model.specs.Evaluation.{tokenAt}
 use Rattle.model.proofs.Lists.{tabulate-snoc, tabulate-length, map-elements}
 use Rattle.model.proofs.Buffers.{put-none, put-put, put-length}
-use Rattle.model.proofs.Outputs.{outputs-many, output-low, output-high}
+use Rattle.model.proofs.Accepted.{OutputHolds, accepted-output}
+use Rattle.model.proofs.Outputs.{outputs-many}
 use Rattle.circuit.specs.Outputs.{OutputStart}
 use Rattle.circuit.proofs.AcceptedLaws as Sized
 use Rattle.garble.specs.Walk.{ColoursStart}
@@ -46,13 +47,14 @@ module _ (c : List ℕ) (s : Sizes) (z o : List ℕ) (at : ℕ) (start : Colours
     colours-output = record { sized = start .sized; more = rw is-m at h }
 
     module _ (w : ℕ) (is-w : w ≡ getD (circuitOf c .outputs) j 0) where
+      among : OutputHolds c j
+      among = accepted-output c j (start .sized .accepted) (rw is-m at h)
+
       pub colours-wire : 1 ≤ w
-      colours-wire = rw is-w (output-low c j (rw is-m at h))
+      colours-wire = rw is-w (among .low)
 
       pub colours-token : 16 * (w - 1) + 16 ≤ length z
-      colours-token =
-          let few : outputs c ≤ inputs c + gates c = omega (arith, Sized.limits c s (start .sized) .sizes .m-high) in
-          omega (arith, is-w, colours-wire, output-high c few j (rw is-m at h), start .tokens)
+      colours-token = omega (arith, is-w, among .low, among .high, start .tokens)
 
   module _ (i : ℕ) (d : List ℕ) (inv : Writing c z at o i d) where
     pub colours-end : s .m ≤ i → d ≡ put o at (map (λ w. colour (tokenAt z w)) (circuitOf c .outputs))

@@ -1,6 +1,5 @@
 -- Laws of the functions.
 pub mod PickLaws
-pub mod BlockLaws
 pub mod InputLaws
 pub mod EncodeLaws
 pub mod EncodeIsLaws

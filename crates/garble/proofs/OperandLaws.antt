@@ -7,7 +7,7 @@ use lib.ListN.{length, take, drop}
 use Rattle.model.specs.declared.Gate.{Gate}
 use Rattle.model.specs.Circuit.{inputs, gateAt, gateWire}
 use Rattle.model.specs.Evaluation.{tokenAt}
-use Rattle.model.proofs.Accepted.{HeaderHolds, GateHolds, accepted-header, accepted-gate}
+use Rattle.model.proofs.Accepted.{HeaderHolds, GateHolds, accepted-header, gates-inside, accepted-gate}
 use Rattle.garble.specs.Walk.{OperandsStart, GateInIs}
 use Rattle.garble.specs.declared.gate.GateIn.{GateIn}
 
@@ -19,7 +19,7 @@ module _ (c : List ℕ) (n k : ℕ) (z : List ℕ) (start : OperandsStart c n k 
   operands = accepted-gate c k (start .accepted) (start .more)
 
   pub gate-room : 8 + 7 * k + 7 ≤ length c
-  gate-room = omega (arith, in-circuit .whole, start .more)
+  gate-room = omega (arith, gates-inside c in-circuit, start .more)
 
   pub gate-small : k < 65536
   gate-small = omega (arith, in-circuit .sizes .sum, start .more)

@@ -27,9 +27,9 @@ use Rattle.model.proofs.Lengths.{input-zeros-blocks, zero-tokens-blocks, zero-s
 use Rattle.model.proofs.OneMore.{records-snoc}
 use Rattle.model.proofs.Calls.{garble-calls-at, garble-calls-all, garble-calls-snoc}
 use Rattle.model.proofs.Accepted.{accepted-header}
+use Rattle.model.proofs.Filling.{over-block}
 use Rattle.garble.specs.Walk.{zerosTo, WalkOf, StepStart, StepIs, GatesStart, GatesIs}
 use Rattle.garble.specs.declared.plan.Plan.{Plan}
-use Rattle.garble.proofs.BlockLaws.{over-block}
 use Rattle.garble.proofs.StepLaws.{zeros-many}
 
 -- the bytes of the material up to the last record of some gates, and of all zero tokens

@@ -27,8 +27,8 @@ pub mod seed;
 pub mod walk;
 pub mod whole;
 
-// The material, the zero tokens of all wires and the one tokens of the inputs; or the first of refusals 1 to 7, 8, 14, 19.
-// Answers the material's length and the encryptions made.
+// The material, the zero tokens of all wires and the one tokens of the inputs; or the first of refusals 1 to 7, 25, 26, 8,
+// 14, 19. Answers the material's length and the encryptions made.
 pub fn garble(
     circuit: &[u8],
     seed: &[u8],
@@ -63,7 +63,7 @@ pub fn garble(
     }
 }
 
-// The inputs' tokens for their values; or the first of refusals 1 to 7, 9, 10, 11, 19.
+// The inputs' tokens for their values; or the first of refusals 1 to 7, 25, 26, 9, 10, 11, 19.
 pub fn encode(circuit: &[u8], values: &[u8], zeros: &[u8], ones: &[u8], tokens: &mut [u8]) -> Ran
     ensures { λ r. ⌜ EncodeIs (now (circuit .entry)) (now (values .entry)) (now (zeros .entry)) (now (ones .entry)) (now (tokens .entry)) (ranOf r) (now (tokens .exit)) ⌝ }
 {

@@ -27,6 +27,7 @@ use Rattle.material.specs.declared.reader.Standing.{Standing}
 use Rattle.material.specs.declared.reader.Record.{Record}
 use Rattle.material.specs.Reader.{standingAt, foundRecord, isRowOf}
 use Rattle.material.specs.Answers.{Filed, AtGate, stepOf, nextAnswer, rowAnswer, recordsVerdict, recordsAnswer}
+use Rattle.model.proofs.Accepted.{gates-inside}
 use Rattle.circuit.proofs.AcceptedLaws.{limits, is-n, is-q, few-wires}
 use Rattle.material.proofs.SizeLaws.{inputs-same, code-at}
 use Rattle.material.proofs.ReaderLaws.{isOf, row-record, whole-record, record-stands}
@@ -127,7 +128,7 @@ module _ (c : List ℕ) (z : Sizes) (s : List ℕ) (k at : ℕ) (turn : AtGate c
   inside = omega (arith, turn .more, is-q c z (turn .known .circuit))
 
   pub gate-inside : 8 + 7 * k + 7 ≤ length c
-  gate-inside = omega (arith, limits c z (turn .known .circuit) .whole, inside)
+  gate-inside = omega (arith, gates-inside c (limits c z (turn .known .circuit)), inside)
 
   -- gate k as it was read
   module _ (g : Gate) (is-g : g ≡ gateAt c k) where
