@@ -22,7 +22,7 @@ use Rattle.model.specs.Bytes.{be16, over}
 use Rattle.model.specs.Circuit.{circuitOf, inputs, gates, gateAt, markAt, kindOf, charge, sizesHold}
 use Rattle.model.specs.Scheme.{recordLength}
 use Rattle.model.specs.Garbling.{schemeOf}
-use Rattle.model.specs.Refusals.{fine, refused, refuse, _then_, firstOf, numberOf, placeOf, verdictOf, headVerdict, gateVerdict, recordVerdict, gatesVerdict, circuitVerdict, tokensVerdict, fileVerdict, materialVerdict, lastVerdict, roomVerdict, rowRecordAt}
+use Rattle.model.specs.Refusals.{Verdict, fine, refused, refuse, _then_, firstOf, numberOf, placeOf, verdictOf, headVerdict, gateVerdict, recordVerdict, gatesVerdict, outputsVerdict, circuitVerdict, tokensVerdict, fileVerdict, materialVerdict, lastVerdict, roomVerdict, rowRecordAt}
 use Rattle.model.specs.Operations.{sizesOf, ranOf, evaluatedOf, evaluateVerdict, EvaluateIs}
 use Rattle.model.proofs.Lists.{tabulate-snoc}
 use Rattle.model.proofs.Circuits.{charge-le, charges-snoc}
@@ -60,14 +60,14 @@ neither e f = absurd (let z : _≡_ {A = ℕ} 0 1 = cc in omega arith)
 
 module _ (n m q : ℕ) (s : List ℕ) (r : Walk) where
   -- 3, where its condition is met
-  limited : (leb q 65535 && sizesHold n m q) ≡ false → Ended (Evaluated.Refused Limits) r → Begun n m q s r
+  limited : (leb q 65535 && sizesHold false n m q) ≡ false → Ended (Evaluated.Refused Limits) r → Begun n m q s r
   limited h e = record { goes = λ t. neither h t; stops = λ _. e }
 
   pub begun-many : 65535 < q → Ended (Evaluated.Refused Limits) r → Begun n m q s r
   begun-many h = limited (rw (lt-leb _ _ h))
 
   -- the limits as they were tried
-  module _ (few : q ≤ 65535) (b : Bool) (is-b : b ≡ sizesHold n m q) where
+  module _ (few : q ≤ 65535) (b : Bool) (is-b : b ≡ sizesHold false n m q) where
     pub begun-limits : not b ≡ true → Ended (Evaluated.Refused Limits) r → Begun n m q s r
     begun-limits h = limited (rw (le-leb _ _ few, ← is-b, not-true b h))
 
@@ -285,11 +285,11 @@ sizes-are z a b e f i j k l = rw (← i, ← j, ← k, ← l)
 
 -- all gates were tried: the circuit is accepted
 all-tried : (c s o d : List ℕ) (left k : ℕ) (z : Sizes) (at : ℕ) → Tried c s o left k z at d → z .q ≤ k → Accepted c z
-unfolding circuitVerdict _then_ sizesOf circuitOf
+unfolding circuitVerdict outputsVerdict _then_ sizesOf circuitOf
 all-tried c s o d left k z at t h =
     let e : k ≡ gates c = omega (arith, t .within, t .is-q) in
     record {
-      accepted = rw (t .head) (rw e at (t .no-fault));
+      accepted = rw (t .head, t .last-wires) (ap (λ (v : Verdict). v then fine) (rw e at (t .no-fault)));
       sizes = sizes-are z _ _ _ _ (t .is-n) (t .is-m) (t .is-q) (rw e at (t .counted));
     }
 
@@ -415,6 +415,7 @@ module _ (ts s : List ℕ) (w : Walk) (g : Gate) (found : GateRead) (is-found : 
         next .leads c o d left (t .guessed)
         (record {
           head = t .head;
+          last-wires = t .last-wires;
           is-n = t .is-n;
           is-m = t .is-m;
           is-q = t .is-q;
@@ -489,7 +490,7 @@ module _ (ts s : List ℕ) (k : ℕ) (z : Sizes) (there : Cursor) (stride : ℕ)
             let fit = verdict-fine c ts s (length o) (k .accepted) (t .tokens) (rw i at (all-checked c o left t))
             (rw (← is-n c z k, ← is-q c z k, ← t .untouched) h) in
             let sizes = limits c z k .sizes in
-            goes-2 c ts s o left r d′ 0 z here stride (asked .is-stride) (omega (arith, sizes .m-low, sizes .m-high)) 0 g
+            goes-2 c ts s o left r d′ 0 z here stride (asked .is-stride) (sizes .q-low) 0 g
             (record {
               sizes = k .sizes;
               fit = fit;

@@ -22,9 +22,9 @@ use Rattle.model.specs.Operations.{evaluatedOf, evaluateVerdict, evaluateGatesV
 use Rattle.model.proofs.Lists.{tabulate-length}
 use Rattle.model.proofs.Circuits.{charges-le}
 use Rattle.model.proofs.Accepted.{header-holds}
-use Rattle.model.proofs.Records.{noGate, GateFits, inputs-made, outputs-made, gates-made, head-made, gate-made, mark-made}
+use Rattle.model.proofs.Records.{noGate, GateFits, inputs-made, outputs-made, gates-made, not-named, head-made, gate-made, mark-made}
 use Rattle.circuit.specs.Accepted.{Accepted}
-use Rattle.circuit.proofs.AcceptedLaws.{limits, is-n, is-m, is-q, is-p, few-wires}
+use Rattle.circuit.proofs.AcceptedLaws.{limits, is-n, is-m, is-q, is-p, few-wires, few-outputs}
 use Rattle.material.proofs.SizeLaws.{gates-many}
 use Rattle.material.proofs.RowLaws.{row-first, row-room, filed-holds}
 use Rattle.evaluate.specs.declared.list.Walk.{Walk}
@@ -56,7 +56,7 @@ module _ (c ts s o : List ℕ) (left : ℕ) (w : Walk) (d : List ℕ) (st : Stan
         few = record {
           more = omega (arith, st .more (omega (arith, e)), t .is-q);
           wires = omega (arith, held .sum, t .is-n, t .is-q);
-          outputs-few = omega (arith, held .m-high, t .is-m, t .is-q);
+          outputs-few = omega (arith, held .m-high, held .sum, t .is-m);
           charged-few = rw (t .counted) (omega (arith, charges-le (tabulate (w .k) (gateAt c)), tabulate-length (w .k) (gateAt c)));
         };
         near = t .near;
@@ -69,7 +69,7 @@ module _ (c ts s o : List ℕ) (left : ℕ) (w : Walk) (d : List ℕ) (st : Stan
       record {
         more = omega (arith, st .more go, is-q c (w .z) known);
         wires = few-wires c (w .z) known;
-        outputs-few = omega (arith, held .m-high, is-m c (w .z) known, is-q c (w .z) known);
+        outputs-few = few-outputs c (w .z) known;
         charged-few = omega (arith, is-p c (w .z) known, charges-le (circuitOf c .gates), gates-many c, is-q c (w .z) known);
       }
 
@@ -140,19 +140,20 @@ module _ (n m : ℕ) (gs : List Gate) (ts s o : List ℕ) where
     q-made : length gs ≤ 65535 → gates (circuitBytes n m gs) ≡ length gs
     q-made h = gates-made n m gs n-low m-low h
 
-    head-is : length gs ≤ 65535 → headVerdict (circuitBytes n m gs) ≡ refuse (not (sizesHold n m (length gs))) 3 2
+    head-is : length gs ≤ 65535 → headVerdict (circuitBytes n m gs) ≡ refuse (not (sizesHold false n m (length gs))) 3 2
     head-is h = head-made n m gs n-low m-low h
 
     -- the limits hold, or they do not
-    starts : length gs ≤ 65535 → sizesHold n m (length gs) ≡ true → (w : Walk)
+    starts : length gs ≤ 65535 → sizesHold false n m (length gs) ≡ true → (w : Walk)
         → GoesTo 0 0 (record { n = n; m = m; q = length gs; p = 0 }) (record { at = 9 }) (recordLength (schemeOf (getD s 2 0))) 0 w → Stands (circuitBytes n m gs) ts s o (3 * length gs) w o
     unfolding refuse firstOf charges
     starts h e w g =
         let head : headVerdict (circuitBytes n m gs) ≡ fine = rw e at (head-is h) in
         let held = header-holds (circuitBytes n m gs) head .sizes in
-        goes-0 (circuitBytes n m gs) ts s o (3 * length gs) w o 0 _ _ _ refl (omega (arith, held .m-low, held .m-high)) g
+        goes-0 (circuitBytes n m gs) ts s o (3 * length gs) w o 0 _ _ _ refl (held .q-low) g
         (record {
           head = head;
+          last-wires = not-named n m gs;
           is-n = sym (inputs-made n m gs n-low m-low h);
           is-m = sym (outputs-made n m gs n-low m-low h);
           is-q = sym (q-made h);
@@ -165,7 +166,7 @@ module _ (n m : ℕ) (gs : List Gate) (ts s o : List ℕ) where
           turns = omega (arith, q-made h);
         })
 
-    stops : length gs ≤ 65535 → sizesHold n m (length gs) ≡ false → (w : Walk) → Ended (Evaluated.Refused Limits) w
+    stops : length gs ≤ 65535 → sizesHold false n m (length gs) ≡ false → (w : Walk) → Ended (Evaluated.Refused Limits) w
         → Stands (circuitBytes n m gs) ts s o (3 * length gs) w o
     unfolding circuitVerdict refuse _then_
     stops h e w ended =
@@ -175,12 +176,12 @@ module _ (n m : ℕ) (gs : List Gate) (ts s o : List ℕ) where
     pub begins : (w : Walk) → Begun n m (length gs) s w → Good (3 * length gs) w o
     begins w b = record {
       long = refl;
-      few = λ h. first h (sizesHold n m (length gs)) refl;
+      few = λ h. first h (sizesHold false n m (length gs)) refl;
       many = λ h. b .stops (rw (lt-leb _ _ h));
       many-left = λ h. refl;
     }
       where
-        first : length gs ≤ 65535 → (ok : Bool) → sizesHold n m (length gs) ≡ ok → Stands (circuitBytes n m gs) ts s o (3 * length gs) w o
+        first : length gs ≤ 65535 → (ok : Bool) → sizesHold false n m (length gs) ≡ ok → Stands (circuitBytes n m gs) ts s o (3 * length gs) w o
         first h true e = starts h e w (b .goes (rw (le-leb _ _ h, e)))
         first h false e = stops h e w (b .stops (rw (le-leb _ _ h, e)))
 

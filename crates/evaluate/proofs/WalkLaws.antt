@@ -29,10 +29,11 @@ use Rattle.model.proofs.Bits.{Bit, b0, b1, bit-of}
 use Rattle.model.proofs.Xor.{⊕-comm}
 use Rattle.model.proofs.XorRules.{times-0, times-1}
 use Rattle.model.proofs.Codes.{Used, used-charged, used-free}
-use Rattle.model.proofs.Accepted.{HeaderHolds, GateHolds, accepted-header, accepted-gate}
+use Rattle.model.proofs.Accepted.{HeaderHolds, GateHolds, accepted-header, gates-inside, accepted-gate}
 use Rattle.model.proofs.Lists.{tabulate-snoc, tabulate-length}
-use Rattle.model.proofs.Buffers.{over-length, over-over, over-put, put-length}
-use Rattle.model.proofs.Blocks.{Blocks, blocks-length, join-length, join-snoc, cut-blocks, cut-take, join-cut, token-at-front}
+use Rattle.model.proofs.Buffers.{over-length, over-over, put-length}
+use Rattle.model.proofs.Filling.{over-block}
+use Rattle.model.proofs.Blocks.{Blocks, blocks-length, join-length, cut-blocks, cut-take, join-cut, token-at-front}
 use Rattle.model.proofs.Circuits.{charge-le, charges-le}
 use Rattle.model.proofs.Places.{length-last, start-first, start-next, record-fits}
 use Rattle.model.proofs.Calls.{asked-few, evaluate-calls-at, evaluate-calls-all, evaluate-calls-snoc}
@@ -176,7 +177,7 @@ module _ (scheme : ℕ) (c : List ℕ) (n k : ℕ) (s : List ℕ) (at calls : �
   in-circuit = accepted-header c (start .accepted)
 
   pub step-record : 8 + 7 * k + 7 ≤ length c
-  step-record = omega (arith, in-circuit .whole, start .more)
+  step-record = omega (arith, gates-inside c in-circuit, start .more)
 
   pub step-small : k < 65536
   step-small = omega (arith, in-circuit .sizes .sum, start .more)
@@ -250,11 +251,6 @@ front n o h =
     let l : length (take (16 * n) o) ≡ 16 * n = length-take-le (16 * n) o h in
     let e : joinBlocks (cut n o) ≡ take (16 * n) o = rw (cut-take n (16 * n) o (omega arith)) at (join-cut n (take (16 * n) o) l) in
     rw (e, l) (sym (take-append-drop (16 * n) o))
-
--- k blocks xs at the front, and one more
-over-block : {k : ℕ} {xs : List Block} (r : Blocks k xs) (x : Block) (o : List ℕ) → length x ≡ 16 → 16 * k + 16 ≤ length o
-    → put (over (joinBlocks xs) o) (16 * k) x ≡ over (joinBlocks (xs ++ (x ∷ []))) o
-over-block {k} {xs} r x o w h = over-put (joinBlocks xs) o x (16 * k) (join-length r) (omega arith) ∙ ap (λ (l : List ℕ). over l o) (sym (join-snoc xs x))
 
 module _ (c s : List ℕ) (n q : ℕ) (o : List ℕ) (start : WalkStart c s n q o) where
   pub walk-scheme : 2 < length s

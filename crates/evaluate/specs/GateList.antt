@@ -11,7 +11,7 @@ use Rattle.model.specs.declared.Sizes.{Sizes}
 use Rattle.model.specs.declared.Evaluated.{Evaluated}
 use Rattle.model.specs.declared.Refusal.the-variants.{Limits}
 use Rattle.model.specs.Bytes.{tabulate, over}
-use Rattle.model.specs.Circuit.{circuitOf, inputs, outputs, gates, markAt, recordAt, gateAt, kindOf, charge, charges, sizesHold}
+use Rattle.model.specs.Circuit.{circuitOf, inputs, outputs, gates, markAt, recordAt, gateAt, kindOf, charge, charges, named, sizesHold}
 use Rattle.aes.specs.Lent.{Lent}
 use Rattle.model.specs.Scheme.{recordLength}
 use Rattle.model.specs.Garbling.{schemeOf}
@@ -40,8 +40,8 @@ pub record Ended (a : Evaluated) (w : Walk) : Type 0 where
 
 -- 3: "more than 65,535 records", or sizes that break a limit. Else the bytes of a row record are those of the material's scheme byte
 pub record Begun (n m q : ℕ) (s : List ℕ) (w : Walk) : Type 0 where
-  pub goes : (leb q 65535 && sizesHold n m q) ≡ true → GoesTo 0 0 (record { n = n; m = m; q = q; p = 0 }) (record { at = 9 }) (recordLength (schemeOf (getD s 2 0))) 0 w
-  pub stops : (leb q 65535 && sizesHold n m q) ≡ false → Ended (Evaluated.Refused Limits) w
+  pub goes : (leb q 65535 && sizesHold false n m q) ≡ true → GoesTo 0 0 (record { n = n; m = m; q = q; p = 0 }) (record { at = 9 }) (recordLength (schemeOf (getD s 2 0))) 0 w
+  pub stops : (leb q 65535 && sizesHold false n m q) ≡ false → Ended (Evaluated.Refused Limits) w
 
 -- the token of gate k is written, and so many encryptions are made: on to the next gate, or over
 pub record Onward (k : ℕ) (z : Sizes) (there : Cursor) (stride calls : ℕ) (w : Walk) : Type 0 where
@@ -64,9 +64,10 @@ pub record RowsRight (c s : List ℕ) (k at : ℕ) : Type 0 where
 pub record Guessed (c s : List ℕ) (k at : ℕ) : Type 0 where
   pub rows : (at ≡ 0 → ⊥) → Filed c (sizesOf c) s → RowsRight c s k at
 
--- pass 0: k gates have no fault; the index is where the next row record is due, or 0, and no further than k row records of four rows reach
+-- pass 0: k gates have no fault, and the circuit, which the records stand for, does not name its outputs; the index is where the next row record is due, or 0, and no further than k row records of four rows reach
 pub record Tried (c s o : List ℕ) (left k : ℕ) (z : Sizes) (at : ℕ) (d : List ℕ) : Type 0 where
   pub head : headVerdict c ≡ fine
+  pub last-wires : named c ≡ false
   pub is-n : z .n ≡ inputs c
   pub is-m : z .m ≡ outputs c
   pub is-q : z .q ≡ gates c
@@ -109,7 +110,7 @@ pub record Stands (c ts s o : List ℕ) (left : ℕ) (w : Walk) (d : List ℕ) :
 pub record Few (k : ℕ) (z : Sizes) (most : ℕ) : Type 0 where
   pub more : k < z .q
   pub wires : z .n + z .q ≤ 65535
-  pub outputs-few : z .m ≤ z .q
+  pub outputs-few : z .m ≤ 65535
   pub charged-few : z .p ≤ most
 
 -- past the row record, of so many bytes, of a gate of charge x: the index itself for a free gate; for a charged one past its record, exactly if it stands

@@ -1,8 +1,8 @@
-// The refusals of evaluate and decode once the circuit is accepted, in order (01, Operations): nothing is written here.
+// The refusals of evaluate, decode and output_tokens once the circuit is accepted, in order (01, Operations): nothing is written here.
 ghost use mathlib.Core.Path.{_≡_};
 ghost use Rattle.model.specs.Operations.{ranOf};
-ghost use Rattle.circuit.specs.Accepted.{Accepted};
-ghost use Rattle.evaluate.specs.Answers.{restVerdict};
+ghost use Rattle.circuit.specs.Accepted.{Accepted, Bounded};
+ghost use Rattle.evaluate.specs.Answers.{restVerdict, outputArguments};
 use circuit::arguments::check_room;
 use circuit::arguments::check_tokens;
 use material::check_material;
@@ -28,5 +28,16 @@ pub fn check_rest(
             Ran::Refused(f) => Ran::Refused(f),
             Ran::Done => check_room(bytes, room),
         },
+    }
+}
+
+// 11 for the tokens of all wires, and 19 for the tokens of the outputs.
+pub fn output_arguments(z: Sizes, wires: &[u8], room: usize) -> Ran
+    requires { ⌜ Bounded z ⌝ }
+    ensures { λ r. ⌜ ranOf r ≡ outputArguments z (now (wires .entry)) room ⌝ }
+{
+    match check_tokens(z.n + z.q, wires) {
+        Ran::Refused(f) => Ran::Refused(f),
+        Ran::Done => check_room(16 * z.m, room),
     }
 }

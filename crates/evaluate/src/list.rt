@@ -1,9 +1,9 @@
-// Evaluation over a list of gate records (01, Circuit): for a caller that runs one circuit many times and has its gates already
-// read. No bytes are made of the records: they are walked in passes, in the order in which document 01 refuses. Pass 0 looks for
-// faults in the gates (6 and 7), pass 1 checks their row records (17), pass 2 writes their tokens; between the passes stands what
-// is tried once. So that pass 1 need not go over all gates, pass 0 looks at the row records too, before anything is known of the
-// material's header and length. If these are then found right, and every row record before the last gate's was right too, pass 1
-// checks the last gate only; if one was not, pass 1 starts at the first gate and finds the fault that is to be told.
+// Evaluation over a list of gate records (01, Circuit), which is a circuit of mark 43 48: for a caller that runs one circuit many times
+// and has its gates already read. No bytes are made of the records: they are walked in passes, in the order in which document 01
+// refuses. Pass 0 looks for faults in the gates (6 and 7), pass 1 checks their row records (17), pass 2 writes their tokens; between the
+// passes stands what is tried once. So that pass 1 need not go over all gates, pass 0 looks at the row records too, before anything is
+// known of the material's header and length. If these are then found right, and every row record before the last gate's was right too,
+// pass 1 checks the last gate only; if one was not, pass 1 starts at the first gate and finds the fault that is to be told.
 // All is decided here; `walk_gates` below only hands over one record after the other, in a loop for each pass.
 // Whatever enciphers is lent the T-tables and the schedule w of π's fixed key.
 ghost use mathlib.Core.Path.{_≡_};
@@ -100,7 +100,7 @@ pub fn begin(n: u16, m: u16, q: usize, material: &[u8]) -> Walk
     if 65535 < q {
         return ended(0, z, first, stride, Evaluated::Refused(Refusal::Limits));
     }
-    if !sizes_hold(n, m, q) {
+    if !sizes_hold(false, n, m, q) {
         return ended(0, z, first, stride, Evaluated::Refused(Refusal::Limits));
     }
     go_to(0, 0, z, first, stride, 0)

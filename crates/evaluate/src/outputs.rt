@@ -1,19 +1,24 @@
-// The tokens of the outputs, among those of all wires (01, Operations): what decode is given.
+// The tokens of the outputs, gathered from those of all wires: what decode is given (01, Operations; 02, job 8).
 ghost use mathlib.Core.Path.{_≡_};
+ghost use Rattle.model.specs.Bytes.{over};
 ghost use Rattle.model.specs.Circuit.{circuitOf};
 ghost use Rattle.model.specs.Evaluation.{outputTokens};
-ghost use Rattle.evaluate.specs.Outputs.{OutputsStart};
+ghost use Rattle.evaluate.specs.Outputs.{GatherStart};
+use block::load;
+use block::store;
 use circuit::outputs::output_wire;
 use model::Sizes;
 
-// The outputs' tokens, in their order. Those of a circuit of mark 43 48 stand one after the other, from that of output 0 on: they are a
-// part of the tokens of all wires, and nothing is copied.
-pub fn output_tokens<'a>(circuit: &[u8], z: Sizes, wires: &'a [u8]) -> &'a [u8]
-    requires { ⌜ OutputsStart (now circuit) z (now wires) ⌝ }
-    ensures { λ r. ⌜ now r ≡ outputTokens (circuitOf (now (circuit .entry))) (now (wires .entry)) ⌝ }
+// The outputs' tokens, in their order, to the front of a buffer.
+pub fn gather_tokens(circuit: &[u8], z: Sizes, wires: &[u8], tokens: &mut [u8])
+    requires { ⌜ GatherStart (now circuit) z (now wires) (now tokens) ⌝ }
+    ensures { λ _. ⌜ now (tokens .exit) ≡ over (outputTokens (circuitOf (now (circuit .entry))) (now (wires .entry))) (now (tokens .entry)) ⌝ }
 {
-    let first = output_wire(circuit, z, 0).0 as usize;
-    let at = 16 * (first - 1);
-    let end = at + 16 * z.m;
-    &wires[at..end]
+    let mut i: usize = 0;
+    while i < z.m {
+        let w = output_wire(circuit, z, i).0 as usize;
+        let x = load(wires, 16 * (w - 1));
+        store(tokens, 16 * i, x);
+        i += 1;
+    }
 }
