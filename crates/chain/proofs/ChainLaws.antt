@@ -35,15 +35,16 @@ other : (i x : ℕ) → fine ≡ refused i x → ⊥
 other i x e = absurd (let z : _≡_ {A = ℕ} 0 1 = cc in omega arith)
 
 module _ (c seed : List ℕ) (want : Wanted) (f z o : List ℕ) (g : Garbled) (f′ z′ o′ : List ℕ) (answers : GarbleIs c seed want f z o (garbledOf g) f′ z′ o′) where
-  pub garble-refused : (e : Refusal) → g ≡ Garbled.Refused e → (v t w b : List ℕ)
-      → EndedAtGarble c seed want v f z o t w b f′ z′ o′ t w b (verdictOf e)
-  garble-refused e h v t w b =
+  pub garble-refused : (e : Refusal) → g ≡ Garbled.Refused e → (v t w y b : List ℕ)
+      → EndedAtGarble c seed want v f z o t w y b f′ z′ o′ t w y b (verdictOf e)
+  garble-refused e h v t w y b =
       let refused-by : GarbleIs c seed want f z o (no (verdictOf e)) f′ z′ o′ = rw h at answers in
       record {
         garble-is = refused-by;
         only-19 = H.garble-refused c seed want v f z o f′ z′ o′ _ _ refused-by;
         tokens-kept = refl;
         wires-kept = refl;
+        outputs-kept = refl;
         bits-kept = refl;
       }
 
@@ -79,9 +80,9 @@ module _ (c seed : List ℕ) (want : Wanted) (f z o : List ℕ) (g : Garbled) (f
     -- and check after it
     module _ (q : Checked) (is-q : checkedOf q ≡ checkAnswer c) where
       -- it cannot refuse what garble accepted
-      pub check-refused : (e : Refusal) → q ≡ Checked.Refused e → (v t w b : List ℕ)
-          → EndedAtGarble c seed want v f z o t w b f′ z′ o′ t w b (verdictOf e)
-      check-refused e j v t w b = absurd (other _ _ (sym (A.check-refused c q is-q e j ∙ start .sized .accepted)))
+      pub check-refused : (e : Refusal) → q ≡ Checked.Refused e → (v t w y b : List ℕ)
+          → EndedAtGarble c seed want v f z o t w y b f′ z′ o′ t w y b (verdictOf e)
+      check-refused e j v t w y b = absurd (other _ _ (sym (A.check-refused c q is-q e j ∙ start .sized .accepted)))
 
       module _ (s : Sizes) (j : q ≡ Checked.Accepted s) where
         known : Accepted c s
@@ -98,8 +99,8 @@ module _ (c seed : List ℕ) (want : Wanted) (f z o : List ℕ) (g : Garbled) (f
               (omega (arith, start .inputs-room, over-long (joinBlocks (inputOnes (garblingOf c seed want))) o));
         }
 
-        pub chain-done : (v t w b : List ℕ) (r : Chained) (t′ w′ b′ : List ℕ) → EncodeOn c s v (take l f′) z′ o′ t w b r t′ w′ b′
-            → ChainIs c seed want v f z o t w b r f′ z′ o′ t′ w′ b′
-        chain-done v t w b r t′ w′ b′ e = ended c seed want v f z o t w b f′ z′ o′ t′ w′ b′ ran r (rw (is-length, known .sizes) at e)
+        pub chain-done : (v t w y b : List ℕ) (r : Chained) (t′ w′ y′ b′ : List ℕ) → EncodeOn c s v (take l f′) z′ o′ t w y b r t′ w′ y′ b′
+            → ChainIs c seed want v f z o t w y b r f′ z′ o′ t′ w′ y′ b′
+        chain-done v t w y b r t′ w′ y′ b′ e = ended c seed want v f z o t w y b f′ z′ o′ t′ w′ y′ b′ ran r (rw (is-length, known .sizes) at e)
 
 pub ruleset chain-cases = (garble-refused, material-among, material-front, check-refused, encode-ready, chain-done)

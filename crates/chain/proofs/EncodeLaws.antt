@@ -46,11 +46,13 @@ module _ (c : List ℕ) (s : Sizes) (z o : List ℕ) (start : EncodeHanded c s z
       ran : EncodeIs c v (take (16 * s .n) z) (take (16 * s .n) o) t fine t′
       ran = rw h at answers
 
-      pub encode-on-done : (f w b : List ℕ) (r : Chained) (w′ b′ : List ℕ) → EvaluateOn c s f t′ w b r w′ b′ → EncodeOn c s v f z o t w b r t′ w′ b′
-      encode-on-done f w b (Chained.Decode e) w′ b′ d = record { encode-is = ran; evaluate-on = d }
-      encode-on-done f w b (Chained.Evaluate e) w′ b′ d = record { encode-is = ran; evaluate-on = d }
-      encode-on-done f w b Chained.Done w′ b′ d = record { encode-is = ran; evaluate-on = d }
-      encode-on-done f w b (Chained.Garble e) w′ b′ d = d
-      encode-on-done f w b (Chained.Encode e) w′ b′ d = absurd d
+      pub encode-on-done : (f w y b : List ℕ) (r : Chained) (w′ y′ b′ : List ℕ) → EvaluateOn c s f t′ w y b r w′ y′ b′
+          → EncodeOn c s v f z o t w y b r t′ w′ y′ b′
+      encode-on-done f w y b (Chained.Evaluate e) w′ y′ b′ d = record { encode-is = ran; evaluate-on = d }
+      encode-on-done f w y b (Chained.Outputs e) w′ y′ b′ d = record { encode-is = ran; evaluate-on = d }
+      encode-on-done f w y b (Chained.Decode e) w′ y′ b′ d = record { encode-is = ran; evaluate-on = d }
+      encode-on-done f w y b Chained.Done w′ y′ b′ d = record { encode-is = ran; evaluate-on = d }
+      encode-on-done f w y b (Chained.Garble e) w′ y′ b′ d = d
+      encode-on-done f w y b (Chained.Encode e) w′ y′ b′ d = absurd d
 
 pub ruleset encode-on-cases = (zeros-front, ones-front, encode-on-refused, evaluate-ready, encode-on-done)

@@ -1,4 +1,4 @@
--- `evaluate_on`: the tokens that evaluate gets, what it leaves for decode, and a law for each return. Assumes nothing.
+-- `evaluate_on`: the tokens that evaluate gets, what it leaves for what comes after it, and a law for each return. Assumes nothing.
 use Prim.Native.Nat.{ℕ, _*_}
 use native.Mathlib.Omega.{arith}
 use mathlib.Core.Path.{_≡_, sym}
@@ -11,13 +11,12 @@ use Rattle.model.specs.declared.Evaluated.{Evaluated}
 use Rattle.model.specs.Circuit.{circuitOf, inputs}
 use Rattle.model.specs.Evaluation.{evaluateBytes}
 use Rattle.model.specs.Refusals.{verdictOf}
-use Rattle.model.specs.Operations.{no, evaluatedOf, evaluateVerdict, evaluateCallsOf, EvaluateIs}
+use Rattle.model.specs.Operations.{no, yes, evaluatedOf, evaluateVerdict, evaluateCallsOf, EvaluateIs}
 use Rattle.model.proofs.Verdicts.{Given, yes-given, then-fine}
 use Rattle.circuit.proofs.AcceptedLaws.{is-n, is-q}
-use Rattle.evaluate.specs.Outputs.{OutputsStart}
 use Rattle.evaluate.proofs.RestLaws.{evaluate-verdict, rest-holds}
 use Rattle.chain.specs.declared.Chained.{Chained}
-use Rattle.chain.specs.Parts.{EvaluateHanded, DecodeOn, EvaluateOn}
+use Rattle.chain.specs.Parts.{OutputsHanded, EvaluateHanded, OutputsOn, EvaluateOn}
 use Rattle.chain.proofs.PartLaws.{over-long}
 
 module _ (c : List ℕ) (s : Sizes) (t : List ℕ) (start : EvaluateHanded c s t) where
@@ -33,22 +32,26 @@ module _ (c : List ℕ) (s : Sizes) (t : List ℕ) (start : EvaluateHanded c s t
       told : Given (evaluateVerdict c (take (16 * s .n) t) f (length w)) k (evaluateCallsOf c (take (16 * s .n) t) f)
       told = yes-given _ k (evaluateCallsOf c (take (16 * s .n) t) f) (let e = answers .answered in rw h at e)
 
-      pub decode-ready : OutputsStart c s w′
-      decode-ready =
+      pub outputs-ready : OutputsHanded c s w′
+      outputs-ready =
           let a = then-fine _ _ (rw (evaluate-verdict c (take (16 * s .n) t) f (length w)) at (told .is-fine)) .1 in
           let room = rest-holds c (inputs c) _ f _ _ a .roomy in
           record {
             sized = start .sized;
             all-wires =
-                rw (answers .left, told .is-fine)
+                rw (is-n c s (start .sized), is-q c s (start .sized), answers .left, told .is-fine)
                 (omega (arith, room, over-long (evaluateBytes (circuitOf c) (take (16 * s .n) t) f) w));
           }
 
-      pub evaluate-on-done : (b : List ℕ) (r : Chained) (b′ : List ℕ) → DecodeOn c f w′ b r b′ → EvaluateOn c s f t w b r w′ b′
-      evaluate-on-done b (Chained.Decode e) b′ d = record { evaluate-is = rw (h, told .is-result) at answers; decode-is = d }
-      evaluate-on-done b Chained.Done b′ d = record { evaluate-is = rw (h, told .is-result) at answers; decode-is = d }
-      evaluate-on-done b (Chained.Garble e) b′ d = d
-      evaluate-on-done b (Chained.Encode e) b′ d = d
-      evaluate-on-done b (Chained.Evaluate e) b′ d = absurd d
+      ran : EvaluateIs c (take (16 * s .n) t) f w (yes (evaluateCallsOf c (take (16 * s .n) t) f)) w′
+      ran = rw (h, told .is-result) at answers
 
-pub ruleset evaluate-on-cases = (tokens-front, evaluate-on-refused, decode-ready, evaluate-on-done)
+      pub evaluate-on-done : (y b : List ℕ) (r : Chained) (y′ b′ : List ℕ) → OutputsOn c s f w′ y b r y′ b′ → EvaluateOn c s f t w y b r w′ y′ b′
+      evaluate-on-done y b (Chained.Outputs e) y′ b′ d = record { evaluate-is = ran; outputs-on = d }
+      evaluate-on-done y b (Chained.Decode e) y′ b′ d = record { evaluate-is = ran; outputs-on = d }
+      evaluate-on-done y b Chained.Done y′ b′ d = record { evaluate-is = ran; outputs-on = d }
+      evaluate-on-done y b (Chained.Garble e) y′ b′ d = d
+      evaluate-on-done y b (Chained.Encode e) y′ b′ d = d
+      evaluate-on-done y b (Chained.Evaluate e) y′ b′ d = absurd d
+
+pub ruleset evaluate-on-cases = (tokens-front, evaluate-on-refused, outputs-ready, evaluate-on-done)

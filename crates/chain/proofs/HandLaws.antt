@@ -1,32 +1,30 @@
 -- What each call leaves, and so what the next one gets: the bytes that demand 3 speaks of. Assumes nothing.
-use Prim.Native.Nat.{ℕ, _*_}
+use Prim.Native.Nat.{ℕ, _+_, _*_}
 use native.Mathlib.Omega.{arith}
-use mathlib.Core.Path.{_≡_, sym, ap, _∙_}
+use mathlib.Core.Path.{_≡_, sym, _∙_}
 use mathlib.Core.List.{List, map}
 use mathlib.Core.Bool.{Bool, true, false}
 use lib.Dec.{ltb}
 use lib.ListN.{length, take, length-map}
 use Rattle.model.specs.declared.Wanted.{Wanted}
 use Rattle.model.specs.Bytes.{over}
-use Rattle.model.specs.Circuit.{charges, circuitOf, inputs, outputs}
+use Rattle.model.specs.Circuit.{charges, circuitOf, inputs, outputs, gates}
 use Rattle.model.specs.Tokens.{garblingOf}
-use Rattle.model.specs.Material.{joinBlocks, materialLength, material}
+use Rattle.model.specs.Material.{materialLength, material}
 use Rattle.model.specs.Evaluation.{outputTokens}
 use Rattle.model.specs.Refusals.{Verdict, fine, refused, refuse, _then_, roomVerdict}
-use Rattle.model.specs.Operations.{no, yes, sizesOf, Made, garbleVerdict, garbleMade, evaluateVerdict, evaluateCallsOf, GarbleIs, EncodeIs, EvaluateIs, DecodeIs}
+use Rattle.model.specs.Operations.{no, yes, sizesOf, Made, garbleVerdict, garbleMade, evaluateVerdict, evaluateCallsOf, GarbleIs, EncodeIs, EvaluateIs, OutputTokensIs, DecodeIs}
 use Rattle.model.specs.Demand3.{Allowed, chainMaterial, chainZeros, chainOnes, chainInputs, chainTokens, chainBits, carries}
 use Rattle.model.proofs.Verdicts.{yes-given, no-turned}
 use Rattle.model.proofs.Outputs.{outputs-many}
-use Rattle.model.proofs.Accepted.{map-within, accepted-circuit}
 use Rattle.model.proofs.Lengths.{material-length}
-use Rattle.model.proofs.Demand3.{inputs-long, tokens-long, zeros-long, ones-long, only-room, demand-3}
-use Rattle.material.proofs.SizeLaws.{inputs-same, gates-many}
+use Rattle.model.proofs.Demand3.{inputs-long, tokens-long, zeros-long, ones-long, outputs-long, only-room, demand-3}
 use Rattle.garble.specs.Whole.{WholeStart}
 use Rattle.garble.specs.Written.{EncodeStart}
 use Rattle.garble.proofs.GarbleIsLaws.{garble-fine}
 use Rattle.garble.proofs.EncodeIsLaws.{encode-fine}
 use Rattle.chain.specs.Chain.{IsRoom}
-use Rattle.chain.proofs.PartLaws.{whole-front, front-part, token-over}
+use Rattle.chain.proofs.PartLaws.{whole-front, front-part}
 
 -- ---- a refusal that the rooms give is 19
 
@@ -131,28 +129,34 @@ module _ (c seed : List ℕ) (want : Wanted) (f z o f′ z′ o′ : List ℕ) (
       unfolding chainTokens
       wires-are = evaluated .left ∙ rw (evaluate-was-fine, tokens-handed, file-is v)
 
-      outputs-handed : outputTokens (circuitOf c) w′ ≡ outputTokens (circuitOf c) (chainTokens c seed want v)
-      unfolding outputTokens
-      outputs-handed =
-          rw wires-are
-          (ap joinBlocks
-          (map-within _ _ (accepted-circuit c (garbled .sized .accepted) .outputs-within)
-          (λ k l h. token-over (chainTokens c seed want v) w k l (omega (arith, inputs-same c, gates-many c, tokens-long c seed want v allowed)))))
+      wires-handed : take (16 * (inputs c + gates c)) w′ ≡ chainTokens c seed want v
+      wires-handed = rw wires-are (whole-front _ w _ (tokens-long c seed want v allowed))
 
-      pub decode-refused : (b b′ : List ℕ) (i x : ℕ)
-          → DecodeIs c (outputTokens (circuitOf c) w′) file b (refused i x) b′ → IsRoom (refused i x)
-      decode-refused b b′ i x answers =
-          let e = rw (outputs-handed, file-is v) at (answers .answered) in
-          room-only _ _ i x (e ∙ only-room c seed want v allowed .decode-room (length b))
+      pub outputs-refused : (y y′ : List ℕ) (i x : ℕ) → OutputTokensIs c (take (16 * (inputs c + gates c)) w′) y (refused i x) y′ → IsRoom (refused i x)
+      outputs-refused y y′ i x answers =
+          room-only _ _ i x ((rw wires-handed at (answers .answered)) ∙ only-room c seed want v allowed .output-tokens-room (length y))
 
-      -- ---- decode ran
-      module _ (b b′ : List ℕ) (decoded : DecodeIs c (outputTokens (circuitOf c) w′) file b fine b′) where
-        bits-are : b′ ≡ over (chainBits c seed want v) b
-        unfolding chainBits
-        bits-are = decoded .left ∙ rw (← decoded .answered, outputs-handed, file-is v)
+      -- ---- the outputs' tokens were taken
+      module _ (y y′ : List ℕ) (gathered : OutputTokensIs c (take (16 * (inputs c + gates c)) w′) y fine y′) where
+        outputs-are : y′ ≡ over (outputTokens (circuitOf c) (chainTokens c seed want v)) y
+        outputs-are = gathered .left ∙ rw (← gathered .answered, wires-handed)
 
-        bits-long : length (chainBits c seed want v) ≡ outputs c
-        bits-long = rw (demand-3 c seed want v allowed .decoded) (length-map (circuitOf c .outputs) (carries c v) ∙ outputs-many c)
+        outputs-handed : take (16 * outputs c) y′ ≡ outputTokens (circuitOf c) (chainTokens c seed want v)
+        outputs-handed = rw outputs-are (whole-front _ y _ (outputs-long c seed want v allowed))
 
-        pub bits-handed : take (outputs c) b′ ≡ map (carries c v) (circuitOf c .outputs)
-        bits-handed = rw bits-are (whole-front _ b _ bits-long) ∙ demand-3 c seed want v allowed .decoded
+        pub decode-refused : (b b′ : List ℕ) (i x : ℕ) → DecodeIs c (take (16 * outputs c) y′) file b (refused i x) b′ → IsRoom (refused i x)
+        decode-refused b b′ i x answers =
+            let e = rw (outputs-handed, file-is v) at (answers .answered) in
+            room-only _ _ i x (e ∙ only-room c seed want v allowed .decode-room (length b))
+
+        -- ---- decode ran
+        module _ (b b′ : List ℕ) (decoded : DecodeIs c (take (16 * outputs c) y′) file b fine b′) where
+          bits-are : b′ ≡ over (chainBits c seed want v) b
+          unfolding chainBits
+          bits-are = decoded .left ∙ rw (← decoded .answered, outputs-handed, file-is v)
+
+          bits-long : length (chainBits c seed want v) ≡ outputs c
+          bits-long = rw (demand-3 c seed want v allowed .decoded) (length-map (circuitOf c .outputs) (carries c v) ∙ outputs-many c)
+
+          pub bits-handed : take (outputs c) b′ ≡ map (carries c v) (circuitOf c .outputs)
+          bits-handed = rw bits-are (whole-front _ b _ bits-long) ∙ demand-3 c seed want v allowed .decoded

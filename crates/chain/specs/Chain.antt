@@ -7,10 +7,11 @@
 -- 1. Decoding the tokens that evaluation left on the outputs, with the same material, gives exactly the bits that the plain circuit
 -- carries there, in the order of the outputs."
 --
--- With a run number (02, job 4), for each of them: "the tokens' distance is R of that run."
+-- With a run number (02, job 4), for each of them: "the tokens' distance is R of that run." With outputs by name (02, job 8) too, of which "Decoded bits
+-- follow the list's order": their tokens are gathered in that order before they are decoded.
 --
--- Letters: c is the circuit's bytes, v the value list. The six buffers are the material f, the zero tokens z, the one tokens o, the
--- encoded tokens t, the tokens of all wires w and the bits b; f′, z′, o′, t′, w′, b′ are they when the chain has ended.
+-- Letters: c is the circuit's bytes, v the value list. The seven buffers are the material f, the zero tokens z, the one tokens o, the
+-- encoded tokens t, the tokens of all wires w, those of the outputs y and the bits b; f′, z′, o′, t′, w′, y′, b′ are they when the chain has ended.
 use Prim.Native.Nat.{ℕ, _+_, _*_, _≤_}
 use mathlib.Core.Path.{_≡_}
 use mathlib.Core.Logic.{_↔_}
@@ -21,9 +22,9 @@ use Rattle.model.specs.Circuit.{charges, circuitOf, inputs, outputs, gates}
 use Rattle.model.specs.Aes.{block}
 use Rattle.model.specs.Tokens.{garblingOf, offset, distance}
 use Rattle.model.specs.Material.{materialLength}
-use Rattle.model.specs.Evaluation.{tokenAt, outputTokens}
+use Rattle.model.specs.Evaluation.{tokenAt}
 use Rattle.model.specs.Refusals.{Verdict, fine, refused, verdictOf}
-use Rattle.model.specs.Operations.{Answer, yes, no, garbleMade, evaluateCallsOf, GarbleIs, EncodeIs, EvaluateIs, DecodeIs}
+use Rattle.model.specs.Operations.{Answer, yes, no, garbleMade, evaluateCallsOf, GarbleIs, EncodeIs, EvaluateIs, OutputTokensIs, DecodeIs}
 use Rattle.model.specs.Demand3.{Allowed, carries}
 use Rattle.chain.specs.declared.Chained.{Chained}
 
@@ -39,14 +40,15 @@ pub record WiresRight (c seed : List ℕ) (want : Wanted) (v z′ w′ : List �
 pub record BitsRight (c v b′ : List ℕ) : Type 0 where
   pub decoded : take (outputs c) b′ ≡ map (carries c v) (circuitOf c .outputs)
 
--- refusal 19, a buffer too short: "With the arguments that demand 3 names, only 19 can refuse one of the four"
+-- refusal 19, a buffer too short: "With the arguments that demand 3 names, only 19 can refuse one of the four"; nor can another where the outputs'
+-- tokens are taken
 pub record IsRoom (e : Verdict) : Type 0 where
   pub needed : ℕ
   pub is-19 : e ≡ refused 19 needed
 
--- ---- what each of the four calls answered and left: a call gets the front of what the calls before it wrote
+-- ---- what each of the calls answered and left: a call gets the front of what the calls before it wrote
 
-module _ (c seed : List ℕ) (want : Wanted) (v f z o t w b f′ z′ o′ t′ w′ b′ : List ℕ) where
+module _ (c seed : List ℕ) (want : Wanted) (v f z o t w y b f′ z′ o′ t′ w′ y′ b′ : List ℕ) where
   -- "evaluate gets .. garble's material": the bytes of it that garble wrote
   abbrev pub file : List ℕ
   file = take (materialLength (want .scheme) (outputs c) (charges (circuitOf c .gates))) f′
@@ -66,9 +68,13 @@ module _ (c seed : List ℕ) (want : Wanted) (v f z o t w b f′ z′ o′ t′ 
   abbrev pub EvaluateRan : Type 0
   EvaluateRan = EvaluateAnswers (yes (evaluateCallsOf c (take (16 * inputs c) t′) file))
 
+  -- the outputs' tokens are taken from evaluate's tokens of all wires
+  abbrev pub OutputsAnswers : Verdict → Type 0
+  OutputsAnswers r = OutputTokensIs c (take (16 * (inputs c + gates c)) w′) y r y′
+
   -- "decode gets that material and evaluate's tokens of the m outputs"
   abbrev pub DecodeAnswers : Verdict → Type 0
-  DecodeAnswers r = DecodeIs c (outputTokens (circuitOf c) w′) file b r b′
+  DecodeAnswers r = DecodeIs c (take (16 * outputs c) y′) file b r b′
 
   -- ---- where the chain ended
 
@@ -77,6 +83,7 @@ module _ (c seed : List ℕ) (want : Wanted) (v f z o t w b f′ z′ o′ t′ 
     pub only-19 : Allowed c seed want v → IsRoom e
     pub tokens-kept : t′ ≡ t
     pub wires-kept : w′ ≡ w
+    pub outputs-kept : y′ ≡ y
     pub bits-kept : b′ ≡ b
 
   pub record EndedAtEncode (e : Verdict) : Type 0 where
@@ -84,6 +91,7 @@ module _ (c seed : List ℕ) (want : Wanted) (v f z o t w b f′ z′ o′ t′ 
     pub encode-is : EncodeAnswers e
     pub only-19 : Allowed c seed want v → IsRoom e
     pub wires-kept : w′ ≡ w
+    pub outputs-kept : y′ ≡ y
     pub bits-kept : b′ ≡ b
 
   pub record EndedAtEvaluate (e : Verdict) : Type 0 where
@@ -91,30 +99,43 @@ module _ (c seed : List ℕ) (want : Wanted) (v f z o t w b f′ z′ o′ t′ 
     pub encode-ran : EncodeAnswers fine
     pub evaluate-is : EvaluateAnswers (no e)
     pub only-19 : IsRoom e
+    pub outputs-kept : y′ ≡ y
     pub bits-kept : b′ ≡ b
 
   -- evaluation ran: every wire is right
+  pub record EndedAtOutputs (e : Verdict) : Type 0 where
+    pub garble-ran : GarbleRan
+    pub encode-ran : EncodeAnswers fine
+    pub evaluate-ran : EvaluateRan
+    pub outputs-is : OutputsAnswers e
+    pub only-19 : IsRoom e
+    pub wires-right : WiresRight c seed want v z′ w′
+    pub bits-kept : b′ ≡ b
+
   pub record EndedAtDecode (e : Verdict) : Type 0 where
     pub garble-ran : GarbleRan
     pub encode-ran : EncodeAnswers fine
     pub evaluate-ran : EvaluateRan
+    pub outputs-ran : OutputsAnswers fine
     pub decode-is : DecodeAnswers e
     pub only-19 : IsRoom e
     pub wires-right : WiresRight c seed want v z′ w′
 
-  -- all four ran: every wire and every bit is right
+  -- all ran: every wire and every bit is right
   pub record Ended : Type 0 where
     pub garble-ran : GarbleRan
     pub encode-ran : EncodeAnswers fine
     pub evaluate-ran : EvaluateRan
+    pub outputs-ran : OutputsAnswers fine
     pub decode-ran : DecodeAnswers fine
     pub wires-right : WiresRight c seed want v z′ w′
     pub bits-right : BitsRight c v b′
 
 -- the chain's answer r, for every argument
-abbrev pub ChainIs : (c seed : List ℕ) (want : Wanted) (v f z o t w b : List ℕ) → Chained → (f′ z′ o′ t′ w′ b′ : List ℕ) → Type 0
-ChainIs c seed want v f z o t w b (Chained.Garble e) f′ z′ o′ t′ w′ b′ = EndedAtGarble c seed want v f z o t w b f′ z′ o′ t′ w′ b′ (verdictOf e)
-ChainIs c seed want v f z o t w b (Chained.Encode e) f′ z′ o′ t′ w′ b′ = EndedAtEncode c seed want v f z o t w b f′ z′ o′ t′ w′ b′ (verdictOf e)
-ChainIs c seed want v f z o t w b (Chained.Evaluate e) f′ z′ o′ t′ w′ b′ = EndedAtEvaluate c seed want v f z o t w b f′ z′ o′ t′ w′ b′ (verdictOf e)
-ChainIs c seed want v f z o t w b (Chained.Decode e) f′ z′ o′ t′ w′ b′ = EndedAtDecode c seed want v f z o t w b f′ z′ o′ t′ w′ b′ (verdictOf e)
-ChainIs c seed want v f z o t w b Chained.Done f′ z′ o′ t′ w′ b′ = Ended c seed want v f z o t w b f′ z′ o′ t′ w′ b′
+abbrev pub ChainIs : (c seed : List ℕ) (want : Wanted) (v f z o t w y b : List ℕ) → Chained → (f′ z′ o′ t′ w′ y′ b′ : List ℕ) → Type 0
+ChainIs c seed want v f z o t w y b (Chained.Garble e) f′ z′ o′ t′ w′ y′ b′ = EndedAtGarble c seed want v f z o t w y b f′ z′ o′ t′ w′ y′ b′ (verdictOf e)
+ChainIs c seed want v f z o t w y b (Chained.Encode e) f′ z′ o′ t′ w′ y′ b′ = EndedAtEncode c seed want v f z o t w y b f′ z′ o′ t′ w′ y′ b′ (verdictOf e)
+ChainIs c seed want v f z o t w y b (Chained.Evaluate e) f′ z′ o′ t′ w′ y′ b′ = EndedAtEvaluate c seed want v f z o t w y b f′ z′ o′ t′ w′ y′ b′ (verdictOf e)
+ChainIs c seed want v f z o t w y b (Chained.Outputs e) f′ z′ o′ t′ w′ y′ b′ = EndedAtOutputs c seed want v f z o t w y b f′ z′ o′ t′ w′ y′ b′ (verdictOf e)
+ChainIs c seed want v f z o t w y b (Chained.Decode e) f′ z′ o′ t′ w′ y′ b′ = EndedAtDecode c seed want v f z o t w y b f′ z′ o′ t′ w′ y′ b′ (verdictOf e)
+ChainIs c seed want v f z o t w y b Chained.Done f′ z′ o′ t′ w′ y′ b′ = Ended c seed want v f z o t w y b f′ z′ o′ t′ w′ y′ b′

@@ -1,11 +1,11 @@
-// The chain of demand 3 (01, Operations): garble, encode, evaluate and decode in turn, on one circuit.
-ghost use Rattle.evaluate.specs.Outputs.{OutputsStart};
+// The chain of demand 3 (01, Operations): garble, encode, evaluate and decode in turn, on one circuit; before decode the outputs' tokens are
+// taken from those of all wires (02, job 8).
 ghost use Rattle.chain.specs.Chain.{ChainIs};
-ghost use Rattle.chain.specs.Parts.{EncodeHanded, EncodeOn, EvaluateHanded, EvaluateOn, DecodeOn};
+ghost use Rattle.chain.specs.Parts.{EncodeHanded, EncodeOn, EvaluateHanded, EvaluateOn, OutputsHanded, OutputsOn, DecodeHanded, DecodeOn};
 use circuit::check;
 use evaluate::decode;
 use evaluate::evaluate;
-use evaluate::outputs::output_tokens;
+use evaluate::output_tokens;
 use garble::encode;
 use garble::garble;
 use model::Checked;
@@ -16,23 +16,44 @@ use model::Refusal;
 use model::Sizes;
 use model::Wanted;
 
-// Where the chain ended: all four ran, or one of them refused.
+// Where the chain ended: all ran, or one of them refused.
 pub enum Chained {
     Done,
     Garble(Refusal),
     Encode(Refusal),
     Evaluate(Refusal),
+    Outputs(Refusal),
     Decode(Refusal),
 }
 
-// Decode gets the material and evaluate's tokens of the m outputs.
-fn decode_on(circuit: &[u8], z: Sizes, material: &[u8], wires: &[u8], bits: &mut [u8]) -> Chained
-    requires { ⌜ OutputsStart (now circuit) z (now wires) ⌝ }
-    ensures { λ r. ⌜ DecodeOn (now (circuit .entry)) (now (material .entry)) (now (wires .entry)) (now (bits .entry)) r (now (bits .exit)) ⌝ }
+// Decode gets the material and the tokens of the m outputs.
+fn decode_on(circuit: &[u8], z: Sizes, material: &[u8], outputs: &[u8], bits: &mut [u8]) -> Chained
+    requires { ⌜ DecodeHanded (now circuit) z (now outputs) ⌝ }
+    ensures { λ r. ⌜ DecodeOn (now (circuit .entry)) z (now (material .entry)) (now (outputs .entry)) (now (bits .entry)) r (now (bits .exit)) ⌝ }
 {
-    match decode(circuit, output_tokens(circuit, z, wires), material, bits) {
+    let list = 16 * z.m;
+    match decode(circuit, &outputs[..list], material, bits) {
         Ran::Refused(f) => Chained::Decode(f),
         Ran::Done => Chained::Done,
+    }
+}
+
+// The outputs' tokens are taken from evaluate's, 16 bytes for each wire.
+fn outputs_on(
+    circuit: &[u8],
+    z: Sizes,
+    material: &[u8],
+    wires: &[u8],
+    outputs: &mut [u8],
+    bits: &mut [u8],
+) -> Chained
+    requires { ⌜ OutputsHanded (now circuit) z (now wires) ⌝ }
+    ensures { λ r. ⌜ OutputsOn (now (circuit .entry)) z (now (material .entry)) (now (wires .entry)) (now (outputs .entry)) (now (bits .entry)) r (now (outputs .exit)) (now (bits .exit)) ⌝ }
+{
+    let list = 16 * (z.n + z.q);
+    match output_tokens(circuit, &wires[..list], outputs) {
+        Ran::Refused(f) => Chained::Outputs(f),
+        Ran::Done => decode_on(circuit, z, material, outputs, bits),
     }
 }
 
@@ -43,15 +64,16 @@ fn evaluate_on(
     material: &[u8],
     tokens: &[u8],
     wires: &mut [u8],
+    outputs: &mut [u8],
     bits: &mut [u8],
 ) -> Chained
     requires { ⌜ EvaluateHanded (now circuit) z (now tokens) ⌝ }
-    ensures { λ r. ⌜ EvaluateOn (now (circuit .entry)) z (now (material .entry)) (now (tokens .entry)) (now (wires .entry)) (now (bits .entry)) r (now (wires .exit)) (now (bits .exit)) ⌝ }
+    ensures { λ r. ⌜ EvaluateOn (now (circuit .entry)) z (now (material .entry)) (now (tokens .entry)) (now (wires .entry)) (now (outputs .entry)) (now (bits .entry)) r (now (wires .exit)) (now (outputs .exit)) (now (bits .exit)) ⌝ }
 {
     let list = 16 * z.n;
     match evaluate(circuit, &tokens[..list], material, wires) {
         Evaluated::Refused(f) => Chained::Evaluate(f),
-        Evaluated::Done(_) => decode_on(circuit, z, material, wires, bits),
+        Evaluated::Done(_) => outputs_on(circuit, z, material, wires, outputs, bits),
     }
 }
 
@@ -65,15 +87,16 @@ fn encode_on(
     ones: &[u8],
     tokens: &mut [u8],
     wires: &mut [u8],
+    outputs: &mut [u8],
     bits: &mut [u8],
 ) -> Chained
     requires { ⌜ EncodeHanded (now circuit) z (now zeros) (now ones) ⌝ }
-    ensures { λ r. ⌜ EncodeOn (now (circuit .entry)) z (now (values .entry)) (now (material .entry)) (now (zeros .entry)) (now (ones .entry)) (now (tokens .entry)) (now (wires .entry)) (now (bits .entry)) r (now (tokens .exit)) (now (wires .exit)) (now (bits .exit)) ⌝ }
+    ensures { λ r. ⌜ EncodeOn (now (circuit .entry)) z (now (values .entry)) (now (material .entry)) (now (zeros .entry)) (now (ones .entry)) (now (tokens .entry)) (now (wires .entry)) (now (outputs .entry)) (now (bits .entry)) r (now (tokens .exit)) (now (wires .exit)) (now (outputs .exit)) (now (bits .exit)) ⌝ }
 {
     let list = 16 * z.n;
     match encode(circuit, values, &zeros[..list], &ones[..list], tokens) {
         Ran::Refused(f) => Chained::Encode(f),
-        Ran::Done => evaluate_on(circuit, z, material, tokens, wires, bits),
+        Ran::Done => evaluate_on(circuit, z, material, tokens, wires, outputs, bits),
     }
 }
 
@@ -88,9 +111,10 @@ pub fn chain(
     ones: &mut [u8],
     tokens: &mut [u8],
     wires: &mut [u8],
+    outputs: &mut [u8],
     bits: &mut [u8],
 ) -> Chained
-    ensures { λ r. ⌜ ChainIs (now (circuit .entry)) (now (seed .entry)) wanted (now (values .entry)) (now (material .entry)) (now (zeros .entry)) (now (ones .entry)) (now (tokens .entry)) (now (wires .entry)) (now (bits .entry)) r (now (material .exit)) (now (zeros .exit)) (now (ones .exit)) (now (tokens .exit)) (now (wires .exit)) (now (bits .exit)) ⌝ }
+    ensures { λ r. ⌜ ChainIs (now (circuit .entry)) (now (seed .entry)) wanted (now (values .entry)) (now (material .entry)) (now (zeros .entry)) (now (ones .entry)) (now (tokens .entry)) (now (wires .entry)) (now (outputs .entry)) (now (bits .entry)) r (now (material .exit)) (now (zeros .exit)) (now (ones .exit)) (now (tokens .exit)) (now (wires .exit)) (now (outputs .exit)) (now (bits .exit)) ⌝ }
 {
     match garble(circuit, seed, wanted, material, zeros, ones) {
         Garbled::Refused(f) => Chained::Garble(f),
@@ -105,6 +129,7 @@ pub fn chain(
                 ones,
                 tokens,
                 wires,
+                outputs,
                 bits,
             ),
         },

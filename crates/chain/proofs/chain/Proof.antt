@@ -5,7 +5,7 @@ use Rattle.chain.proofs.chain.Tie as tie
 
 encode-on-requires : tie.Need-encode-on-requires
 encode-on-requires c κs =
-    let told = c .before .before .before .before .before .before .before in
+    let told = c .before .before .before .before .before .before .before .before in
     let checked = told .before .before in
     let garbled = checked .before .before in
     let call = garbled .before .before .before .before .before .before .before .before in
@@ -14,13 +14,13 @@ encode-on-requires c κs =
 -- the chain went on past garble: its first bytes are those of the garbling asked for
 returns-done : tie.Need-returns-3
 returns-done c =
-    let encoded = c .before .before .before .before .before .before in
-    let told = encoded .before .before .before .before .before .before .before .before in
+    let encoded = c .before .before .before .before .before .before .before .before in
+    let told = encoded .before .before .before .before .before .before .before .before .before in
     let checked = told .before .before in
     let garbled = checked .before .before in
     let call = garbled .before .before .before .before .before .before .before .before in
     chain-done _ _ _ _ _ _ _ _ _ _ (call .garble .ensures) _ _ (garbled .length .given .1) _ (checked .check .ensures) _ (told .z .given .1)
-    _ _ _ _ (encoded .encode-on .result) _ _ _ (encoded .encode-on .ensures)
+    _ _ _ _ _ (encoded .encode-on .result) _ _ _ _ (encoded .encode-on .ensures)
 
 pub chain-spec : {M : Type 1} → statement M
 chain-spec =
@@ -29,4 +29,4 @@ chain-spec =
     (λ c. search needs) (λ c. search needs) (λ c. search chain-cases) (λ c. search chain-cases) encode-on-requires
     (λ c. search needs) (λ c. search needs) (λ c. search needs) (λ c. search chain-cases) (λ c. search needs)
     (λ c. search needs) (λ c. search needs) (λ c. search chain-cases) (λ c. search needs) (λ c. search needs)
-    (λ c. search needs) (λ c. search needs) (λ c. search needs) (λ c. search needs) returns-done)
+    (λ c. search needs) (λ c. search needs) (λ c. search needs) (λ c. search needs) (λ c. search needs) returns-done)

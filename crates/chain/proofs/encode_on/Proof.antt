@@ -8,5 +8,4 @@ encode-on-spec =
     tie.close
     (tie.spec (λ c. search needs) (λ c. search encode-on-cases) (λ c. search encode-on-cases) (λ c κs. search needs)
     (λ c. search needs) (λ c. search needs) (λ c κs. search encode-on-cases) (λ c. search needs)
-    (λ c. (search encode-on-cases, search needs, search needs)) (λ c. search needs) (λ c. search needs)
-    (λ c. search needs) (λ c. search encode-on-cases))
+    (λ c. (search encode-on-cases, search needs, search needs, search needs)) (λ c. search needs) (λ c. search needs) (λ c. search needs) (λ c. search needs) (λ c. search encode-on-cases))
