@@ -1,6 +1,6 @@
 /*
  * An AND gate garbled, evaluated from its bytes and from a list of gates, and decoded, for each pair of input values: all from
- * one seed, each a run of its own. Then two refusals. C11, and C++17 too.
+ * one seed, each a run of its own. Then the outputs of a circuit that names them, and three refusals. C11, and C++17 too.
  */
 #define _DEFAULT_SOURCE /* explicit_bzero */
 #include "weighhare.h"
@@ -14,6 +14,14 @@ static const uint8_t and_gate[15] = {0x43, 0x48, 0, 2, 0, 1, 0, 1, 0x43, 0x47, 0
 
 /* The same gate, already read: for an evaluator that runs one circuit many times. */
 static const weighhare_gate and_read[1] = {{1, 2, WEIGHHARE_AND}};
+
+/* The same gate with its outputs by name: wire 3, wire 1, which is an input and so shown by decoding, and wire 3 again. */
+static const uint8_t named[27] = {0x43, 0x49, 0, 2, 0, 3, 0, 1, 0x43, 0x47, 0, 1, 0, 2, WEIGHHARE_AND,
+                                  0x43, 0x4F, 0, 3, 0x43, 0x4F, 0, 1, 0x43, 0x4F, 0, 3};
+
+/* The same with an output that is no wire, the second. */
+static const uint8_t no_wire[27] = {0x43, 0x49, 0, 2, 0, 3, 0, 1, 0x43, 0x47, 0, 1, 0, 2, WEIGHHARE_AND,
+                                    0x43, 0x4F, 0, 3, 0x43, 0x4F, 0, 4, 0x43, 0x4F, 0, 3};
 
 /* The same circuit, but no gate has code 0. */
 static const uint8_t no_gate[15] = {0x43, 0x48, 0, 2, 0, 1, 0, 1, 0x43, 0x47, 0, 1, 0, 2, 0};
@@ -30,7 +38,7 @@ static int refused(const char *operation, uint8_t number, const uint64_t answer[
 /* One garbling and its evaluation. Whether something refused. */
 static int work(const uint8_t seed[16], uint64_t run, uint8_t scheme, uint8_t u, uint8_t v) {
     const uint8_t values[2] = {u, v};
-    uint8_t material[80], zeros[3 * 16], ones[2 * 16], tokens[2 * 16], wires[3 * 16], same[3 * 16], bit[1];
+    uint8_t material[80], zeros[3 * 16], ones[2 * 16], tokens[2 * 16], wires[3 * 16], same[3 * 16], output[16], bit[1];
     uint64_t answer[4];
     size_t length;
 
@@ -44,15 +52,18 @@ static int work(const uint8_t seed[16], uint64_t run, uint8_t scheme, uint8_t u,
     explicit_bzero(zeros, sizeof zeros);
     explicit_bzero(ones, sizeof ones);
 
-    /* The evaluator's side. The last wire is the output. */
+    /* The evaluator's side. */
     if (refused("evaluate", weighhare_evaluate(and_gate, sizeof and_gate, tokens, sizeof tokens, material, length, wires,
                                                sizeof wires, answer), answer)) return 1;
     if (refused("evaluate_gates", weighhare_evaluate_gates(2, 1, and_read, 1, tokens, sizeof tokens, material, length, same,
                                                            sizeof same, answer), answer)) return 1;
     if (memcmp(same, wires, sizeof wires) != 0) return 1;
-    if (refused("decode", weighhare_decode(and_gate, sizeof and_gate, wires + 2 * 16, 16, material, length, bit, sizeof bit,
+    if (refused("output_tokens", weighhare_output_tokens(and_gate, sizeof and_gate, wires, sizeof wires, output, sizeof output,
+                                                         answer), answer)) return 1;
+    if (refused("decode", weighhare_decode(and_gate, sizeof and_gate, output, sizeof output, material, length, bit, sizeof bit,
                                            answer), answer)) return 1;
     explicit_bzero(tokens, sizeof tokens);
+    explicit_bzero(output, sizeof output);
     explicit_bzero(wires, sizeof wires);
     explicit_bzero(same, sizeof same);
     printf("scheme %u: %u AND %u is %u, in %u bytes of material\n", scheme, u, v, bit[0], (unsigned)length);
@@ -71,6 +82,18 @@ static int work_all(const uint8_t seed[16]) {
     return 0;
 }
 
+/* Which of the wires 1, 2, 3 each named output is, by tokens that tell them. Whether something refused. */
+static int work_named(void) {
+    uint8_t wires[3 * 16], outputs[3 * 16];
+    uint64_t answer[4];
+    unsigned k;
+    for (k = 0; k < sizeof wires; k++) wires[k] = (uint8_t)(1 + k / 16);
+    if (refused("output_tokens", weighhare_output_tokens(named, sizeof named, wires, sizeof wires, outputs, sizeof outputs,
+                                                         answer), answer)) return 1;
+    printf("named outputs: wires %u, %u, %u\n", outputs[0], outputs[16], outputs[32]);
+    return 0;
+}
+
 int main(void) {
     uint64_t answer[4];
     uint8_t seed[16];
@@ -81,8 +104,9 @@ int main(void) {
     }
     failed = work_all(seed);
     explicit_bzero(seed, sizeof seed);
-    if (failed) return 1;
+    if (failed || work_named()) return 1;
     refused("check of 7 bytes", weighhare_check(and_gate, 7, answer), answer);
     refused("check of code 0", weighhare_check(no_gate, sizeof no_gate, answer), answer);
+    refused("check of an output that is no wire", weighhare_check(no_wire, sizeof no_wire, answer), answer);
     return 0;
 }

@@ -7,8 +7,9 @@
  *
  * Every function of the archive
  *   - returns 0, or the number of the refusal (WEIGHHARE_.. below): the first condition that holds. Conditions are tried
- *     in rising number, 5 to 7 together as one search over the gates in file order; an operation skips what it has no
- *     argument for. A condition on several lists or buffers is tried in the order of the arguments;
+ *     in rising number, 5 to 7 together as one search over the gates in file order, but that 25 and 26 come right after
+ *     7, together as one search over the output records in file order; an operation skips what it has no argument for. A
+ *     condition on several lists or buffers is tried in the order of the arguments;
  *   - sets all four words of `answer`. If it refuses, answer[0] is the refusal's place; else the words are its results.
  *     Words that are not used are 0;
  *   - leaves every output buffer as it was if it refuses, and else writes only the bytes named, at the front;
@@ -28,15 +29,23 @@
  *     Nothing here notices a run number that is used twice.
  *   - A garbling is for one evaluation. Evaluated on two input lists it shows R wherever two tokens of a wire differ, and
  *     whoever has R makes each wire's other token from the one.
+ *   - With the mark 43 49 any wire can be an output, an input too, and nothing refuses it: decoding then shows that
+ *     input's bit, and for a middle wire the bit that it carries. Who garbles a circuit that somebody else wrote looks at
+ *     its outputs first.
  *   - After use the garbler wipes the seed, `zeros` and `ones`, the evaluator its `tokens` and `wires`, and each its own
  *     values, by a call that a compiler does not drop, such as explicit_bzero. Nothing here wipes anything. What a
  *     function leaves on the stack is not wiped either.
  *   - AES by tables is not constant-time: see weighhare_garble and weighhare_evaluate. No function here claims to be.
  *
  * Below n, m, q and p are the circuit's inputs, outputs, gates and charged gates. Limits: n is 2 to 4,096, m is 1 to q,
- * q is at least 1, and n+q is at most 65,535. Wires are numbered from 1: the inputs 1 to n, then the gates n+1 to n+q, of
- * which the last m are the outputs. A gate's operands a and b are wires: 1 <= a < b < the gate's own wire number, also
- * where its code uses only one of them. Lists of tokens and of values are in the order of the wires.
+ * with the mark 43 49 1 to n+q, q is at least 1, and n+q is at most 65,535. Wires are numbered from 1: the inputs 1 to n,
+ * then the gates n+1 to n+q. A gate's operands a and b are wires: 1 <= a < b < the gate's own wire number, also where its
+ * code uses only one of them.
+ *
+ * A circuit begins with one of two marks, which say what its outputs are. With 43 48 they are the last m wires, in rising
+ * order. With 43 49 they are the wires that m output records name, after the gates, in the order of the records: inputs,
+ * gates' wires, in any order, a wire more than once too. Lists of tokens and of values of all wires, or of the inputs, are
+ * in the order of the wires; those of the outputs are in the order of the outputs.
  */
 #ifndef WEIGHHARE_H
 #define WEIGHHARE_H
@@ -45,9 +54,10 @@
  * The version of this header, and of the archive and the Rust crate that come with it. The archive itself holds none.
  * 0.5.0 moved the arguments of weighhare_garble: an object compiled with an older header must be compiled anew before it
  * is linked with this archive. No linker notices where it was not. 0.6.0 adds scheme 4, which was refusal 14 before; no
- * function's arguments moved.
+ * function's arguments moved. 0.7.0 adds circuits whose outputs are named, with the mark 43 49, which was refusal 2
+ * before, refusals 25 and 26, and weighhare_output_tokens; no function's arguments moved.
  */
-#define WEIGHHARE_VERSION "0.6.0"
+#define WEIGHHARE_VERSION "0.7.0"
 
 #include <stddef.h>
 #include <stdint.h>
@@ -58,14 +68,14 @@ extern "C" {
 
 /*
  * What the functions return: 0, or why they refused. In brackets: what the refusal's place is, which answer[0] gives, and
- * after a colon more about it. Marks are in hexadecimal; offsets count from 0.
+ * after a colon more about it. Marks are in hexadecimal; offsets count from 0. No function gives 21 to 24.
  */
 enum {
     WEIGHHARE_DONE = 0,             /* nothing refused */
     WEIGHHARE_CIRCUIT_SHORT = 1,    /* the circuit has under 8 bytes [its length] */
-    WEIGHHARE_CIRCUIT_MARK = 2,     /* the circuit does not begin with the mark 43 48 [offset: 0] */
+    WEIGHHARE_CIRCUIT_MARK = 2,     /* the circuit does not begin with the mark 43 48 or 43 49 [offset: 0] */
     WEIGHHARE_LIMITS = 3,           /* the circuit's n, m or q breaks a limit [offset: 2] */
-    WEIGHHARE_CIRCUIT_LENGTH = 4,   /* the circuit's length is not 8+7q [its length] */
+    WEIGHHARE_CIRCUIT_LENGTH = 4,   /* the circuit's length is not 8+7q, or 8+7q+4m with the mark 43 49 [its length] */
     WEIGHHARE_GATE_MARK = 5,        /* a gate does not begin with the mark 43 47 [its wire number] */
     WEIGHHARE_OPERANDS = 6,         /* a gate's operands a and b are not 1 <= a < b < its wire number [its wire number] */
     WEIGHHARE_CODE = 7,             /* a gate's code is neither charged nor free [its wire number] */
@@ -82,7 +92,9 @@ enum {
     WEIGHHARE_ROW_RECORD = 17,      /* a row record has a wrong mark or wire number [the wire number due] */
     WEIGHHARE_LAST_RECORD = 18,     /* the material's last record has a wrong mark or a byte over 1 [where it starts] */
     WEIGHHARE_ROOM = 19,            /* an output buffer is too short [bytes needed: for the first such] */
-    WEIGHHARE_PICK_WIRE = 20        /* pick's wire is 0 or past the lists [the wire] */
+    WEIGHHARE_PICK_WIRE = 20,       /* pick's wire is 0 or past the lists [the wire] */
+    WEIGHHARE_OUTPUT_MARK = 25,     /* an output record does not begin with the mark 43 4F [the output: from 1] */
+    WEIGHHARE_OUTPUT_WIRE = 26      /* an output record's wire is 0 or above n+q [the output: from 1] */
 };
 
 /*
@@ -119,14 +131,14 @@ enum {
 };
 
 /*
- * Checks a circuit. Refusals 1 to 7.
+ * Checks a circuit. Refusals 1 to 7, 25, 26.
  *   circuit  the circuit's bytes
- *   answer   n, m, q, p
+ *   answer   n, m, q, p, with either mark
  */
 uint8_t weighhare_check(const uint8_t *circuit, size_t circuit_len, uint64_t answer[4]);
 
 /*
- * Evaluates the plain circuit: the value that each wire carries. Refusals 1 to 7, 9, 10, 19.
+ * Evaluates the plain circuit: the value that each wire carries. Refusals 1 to 7, 25, 26, 9, 10, 19.
  *   circuit  the circuit's bytes
  *   values   n bytes, each 0 or 1: the inputs' values
  *   wires    output: n+q bytes, each 0 or 1: the value of every wire
@@ -136,7 +148,7 @@ uint8_t weighhare_plain(const uint8_t *circuit, size_t circuit_len, const uint8_
                         uint8_t *wires, size_t wires_len, uint64_t answer[4]);
 
 /*
- * Garbles a circuit. Refusals 1 to 7, 8, 14, 19.
+ * Garbles a circuit. Refusals 1 to 7, 25, 26, 8, 14, 19.
  *
  * Not constant-time: AES goes by look-ups in tables, and their time can depend on the data, through the cache. Somebody
  * who runs code on the same processor may learn about the tokens, and here about the seed.
@@ -159,7 +171,7 @@ uint8_t weighhare_garble(const uint8_t *circuit, size_t circuit_len, const uint8
 
 /*
  * Chooses the inputs' tokens: for value 0 that of the zero list, for value 1 that of the one list.
- * Refusals 1 to 7, 9, 10, 11, 19.
+ * Refusals 1 to 7, 25, 26, 9, 10, 11, 19.
  *   circuit  the circuit's bytes
  *   values   n bytes, each 0 or 1
  *   zeros    16n bytes: the inputs' zero tokens, the first 16n bytes that garble wrote
@@ -172,7 +184,8 @@ uint8_t weighhare_encode(const uint8_t *circuit, size_t circuit_len, const uint8
                          size_t tokens_len, uint64_t answer[4]);
 
 /*
- * Evaluates a garbled circuit: from a token for each input, the token of every wire. Refusals 1 to 7, 11, 12 to 18, 19.
+ * Evaluates a garbled circuit: from a token for each input, the token of every wire.
+ * Refusals 1 to 7, 25, 26, 11, 12 to 18, 19.
  *
  * Not constant-time: AES goes by look-ups in tables, and their time can depend on the data, through the cache. Somebody
  * who runs code on the same processor may learn about the tokens.
@@ -199,8 +212,8 @@ typedef struct {
 
 /*
  * Evaluates as weighhare_evaluate does, from the gates already read: the answer that a circuit of the bytes made from
- * them would get. For a caller that runs one circuit many times. Refusals 3, 6, 7, 11, 12 to 18, 19; more than 65,535
- * gates are refusal 3.
+ * them, with the mark 43 48, would get. For a caller that runs one circuit many times. Refusals 3, 6, 7, 11, 12 to 18,
+ * 19; more than 65,535 gates are refusal 3, and so are more outputs than gates.
  *
  * The three warnings of weighhare_evaluate hold here too: it is not constant-time, a garbling is for one evaluation, and
  * somebody else's material can be wrong.
@@ -214,15 +227,28 @@ uint8_t weighhare_evaluate_gates(uint16_t n, uint16_t m, const weighhare_gate *g
                                  size_t wires_len, uint64_t answer[4]);
 
 /*
- * Decodes the outputs' tokens to bits. Refusals 1 to 7, 11, 12 to 18, 19.
+ * Gathers the outputs' tokens from those of all wires, in the order of the outputs: what weighhare_decode takes.
+ * Refusals 1 to 7, 25, 26, 11, 19.
+ *   circuit  the circuit's bytes
+ *   wires    16(n+q) bytes: the token of every wire, what evaluate wrote, and no more; to wipe after use
+ *   tokens   output: 16m bytes, the token of each output, of a wire that is named twice both times; with the mark 43 48
+ *            they are the last 16m bytes of `wires`
+ *   answer   0, 0, 0, 0
+ */
+uint8_t weighhare_output_tokens(const uint8_t *circuit, size_t circuit_len, const uint8_t *wires, size_t wires_len,
+                                uint8_t *tokens, size_t tokens_len, uint64_t answer[4]);
+
+/*
+ * Decodes the outputs' tokens to bits. Refusals 1 to 7, 25, 26, 11, 12 to 18, 19.
  *
  * Any tokens decode. Material that somebody else made can be well-formed and wrong: a flipped byte of its last record
  * turns a 0 into a 1, and nothing here sees it.
  *
  *   circuit   the circuit's bytes
- *   tokens    16m bytes: the tokens of the outputs, the last 16m of the 16(n+q) bytes that evaluate wrote
+ *   tokens    16m bytes: the tokens of the outputs, what weighhare_output_tokens writes; for a circuit of mark 43 48 the
+ *             last 16m of the 16(n+q) bytes that evaluate wrote
  *   material  the material, exactly as long as garble's answer says
- *   bits      output: m bytes, each 0 or 1
+ *   bits      output: m bytes, each 0 or 1, in the order of the outputs
  *   answer    0, 0, 0, 0
  */
 uint8_t weighhare_decode(const uint8_t *circuit, size_t circuit_len, const uint8_t *tokens, size_t tokens_len,
@@ -239,14 +265,14 @@ uint8_t weighhare_decode(const uint8_t *circuit, size_t circuit_len, const uint8
 uint8_t weighhare_pick(const uint8_t *zeros, size_t zeros_len, const uint8_t *ones, size_t ones_len, uint16_t wire,
                        uint8_t bit, uint64_t answer[4]);
 
-/* What a function's number says, in words: for 0 "nothing refused", from 21 "no such refusal". */
+/* What a function's number says, in words: for 0 "nothing refused", for 21 to 24 and from 27 "no such refusal". */
 static inline const char *weighhare_words(uint8_t number) {
     switch (number) {
     case WEIGHHARE_DONE: return "nothing refused";
     case WEIGHHARE_CIRCUIT_SHORT: return "the circuit has under 8 bytes";
-    case WEIGHHARE_CIRCUIT_MARK: return "the circuit does not begin with the mark 43 48";
+    case WEIGHHARE_CIRCUIT_MARK: return "the circuit does not begin with the mark 43 48 or 43 49";
     case WEIGHHARE_LIMITS: return "the circuit's n, m or q breaks a limit";
-    case WEIGHHARE_CIRCUIT_LENGTH: return "the circuit's length is not 8+7q";
+    case WEIGHHARE_CIRCUIT_LENGTH: return "the circuit's length is not 8+7q, or 8+7q+4m with the mark 43 49";
     case WEIGHHARE_GATE_MARK: return "a gate does not begin with the mark 43 47";
     case WEIGHHARE_OPERANDS: return "a gate's operands a and b are not 1 <= a < b < its wire number";
     case WEIGHHARE_CODE: return "a gate's code is neither charged nor free";
@@ -263,13 +289,15 @@ static inline const char *weighhare_words(uint8_t number) {
     case WEIGHHARE_LAST_RECORD: return "the material's last record has a wrong mark or a byte over 1";
     case WEIGHHARE_ROOM: return "an output buffer is too short";
     case WEIGHHARE_PICK_WIRE: return "pick's wire is 0 or past the lists";
+    case WEIGHHARE_OUTPUT_MARK: return "an output record does not begin with the mark 43 4F";
+    case WEIGHHARE_OUTPUT_WIRE: return "an output record's wire is 0 or above n+q";
     default: return "no such refusal";
     }
 }
 
 /*
  * What a refusal's place, answer[0], is, in words: for "a gate's code is neither charged nor free (its wire number: 3)".
- * For 0, and from 21, "no place".
+ * For 0, for 21 to 24 and from 27, "no place".
  */
 static inline const char *weighhare_place_words(uint8_t number) {
     switch (number) {
@@ -293,6 +321,8 @@ static inline const char *weighhare_place_words(uint8_t number) {
     case WEIGHHARE_LAST_RECORD: return "where it starts";
     case WEIGHHARE_ROOM: return "bytes needed";
     case WEIGHHARE_PICK_WIRE: return "the wire";
+    case WEIGHHARE_OUTPUT_MARK:
+    case WEIGHHARE_OUTPUT_WIRE: return "the output";
     default: return "no place";
     }
 }

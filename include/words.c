@@ -7,13 +7,18 @@
 #include <stdio.h>
 #include <string.h>
 
-/* Each of 0 to 20 has words of its own, and each but 0 a place; no other number has either. */
+/* Whether a number says something: 0 that nothing refused, 1 to 20, 25 and 26 why. */
+static int is_told(unsigned number) {
+    return number <= WEIGHHARE_PICK_WIRE || number == WEIGHHARE_OUTPUT_MARK || number == WEIGHHARE_OUTPUT_WIRE;
+}
+
+/* Each of these has words of its own, and each but 0 a place; no other number has either. */
 static int words(void) {
     unsigned number, other;
     for (number = 0; number <= 255; number++) {
         const char *said = weighhare_words((uint8_t)number), *place = weighhare_place_words((uint8_t)number);
         int is_said = strcmp(said, "no such refusal") != 0, is_place = strcmp(place, "no place") != 0;
-        if (is_said != (number <= WEIGHHARE_PICK_WIRE) || is_place != (number >= 1 && number <= WEIGHHARE_PICK_WIRE)) {
+        if (is_said != is_told(number) || is_place != (number >= 1 && is_told(number))) {
             printf("number %u: %s, %s\n", number, said, place);
             return 1;
         }

@@ -6,9 +6,13 @@
 //!
 //! An operation answers with its results, or with a [`Refusal`], which leaves every buffer as it was. Output buffers may be
 //! longer than what is written; bytes past that are untouched. Below n, m, q and p are the circuit's inputs, outputs, gates
-//! and charged gates ([`Sizes`]). Wires are numbered from 1: the inputs 1 to n, then the gates n+1 to n+q, of which the last
-//! m are the outputs; lists of tokens and of values are in that order. `docs/FORMATS.md` of the repository has the bytes of
-//! a circuit and of the material.
+//! and charged gates ([`Sizes`]). Wires are numbered from 1: the inputs 1 to n, then the gates n+1 to n+q. Lists of tokens
+//! and of values are in that order, those of the outputs in the order of the outputs. `docs/FORMATS.md` of the repository
+//! has the bytes of a circuit and of the material.
+//!
+//! A circuit begins with one of two marks, which say what its outputs are. With 43 48 they are the last m wires, in rising
+//! order. With 43 49 they are the wires that m output records name, after the gates, in the order of the records: inputs,
+//! gates' wires, in any order, a wire more than once too. [`output_tokens`] gathers their tokens from those of all wires.
 //!
 //! # What is secret
 //!
@@ -21,6 +25,9 @@
 //!   proved. Nothing here notices a run number that is used twice.
 //! - A garbling is for one evaluation. Evaluated on two input lists it shows R wherever two tokens of a wire differ, and
 //!   whoever has R makes each wire's other token from the one.
+//! - With the mark 43 49 any wire can be an output, an input too, and nothing refuses it: decoding then shows that input's
+//!   bit, and for a middle wire the bit that it carries. Who garbles a circuit that somebody else wrote looks at its outputs
+//!   first.
 //! - After use the garbler wipes the seed, `zeros` and `ones`, the evaluator its `tokens` and `wires`, and each its own
 //!   values, by a write that a compiler does not drop, such as `write_volatile`. Nothing here wipes anything. What a
 //!   function leaves on the stack is not wiped either.
@@ -50,8 +57,10 @@
 //! // The evaluator's side: it has the circuit, the material and a token for each input.
 //! let mut tokens = vec![0; 16 * wires];
 //! weighhare::evaluate(&circuit, &inputs, &material, &mut tokens)?;
+//! let mut outputs = vec![0; 16 * sizes.m];
+//! weighhare::output_tokens(&circuit, &tokens, &mut outputs)?;
 //! let mut bits = vec![0; sizes.m];
-//! weighhare::decode(&circuit, &tokens[16 * (wires - sizes.m)..], &material, &mut bits)?;
+//! weighhare::decode(&circuit, &outputs, &material, &mut bits)?;
 //! assert_eq!(bits, [1]);
 //! # Ok::<(), weighhare::Refusal>(())
 //! ```
@@ -66,7 +75,8 @@ mod refusal;
 
 pub use refusal::Refusal;
 
-/// A circuit's sizes. Limits: n is 2 to 4,096, m is 1 to q, q is at least 1, and n+q is at most 65,535.
+/// A circuit's sizes. Limits: n is 2 to 4,096, m is 1 to q, with the mark 43 49 1 to n+q, q is at least 1, and n+q is at most
+/// 65,535.
 #[derive(Clone, Copy, Debug, PartialEq, Eq)]
 #[must_use]
 pub struct Sizes {
@@ -106,7 +116,7 @@ pub struct Garbled {
     pub calls: usize,
 }
 
-/// Checks a circuit. Refusals 1 to 7.
+/// Checks a circuit, of either mark. Refusals 1 to 7, 25, 26.
 ///
 /// ```
 /// use weighhare::Refusal;
@@ -123,7 +133,7 @@ pub fn check(circuit: &[u8]) -> Result<Sizes, Refusal> {
     Ok(Sizes { n, m, q, p })
 }
 
-/// Evaluates the plain circuit. Refusals 1 to 7, 9, 10, 19.
+/// Evaluates the plain circuit. Refusals 1 to 7, 25, 26, 9, 10, 19.
 ///
 /// `values` has n bytes, each 0 or 1. Writes n+q bytes to `wires`: the value of every wire.
 pub fn plain(circuit: &[u8], values: &[u8], wires: &mut [u8]) -> Result<(), Refusal> {
@@ -144,7 +154,7 @@ pub fn plain(circuit: &[u8], values: &[u8], wires: &mut [u8]) -> Result<(), Refu
 }
 
 /// Garbles a circuit by a scheme: 1 is GaX, 2 GaXR, 3 half-gates, 4 re-keyed half-gates, which is scheme 3 but for its hash,
-/// whose key changes with each tweak. Refusals 1 to 7, 8, 14, 19.
+/// whose key changes with each tweak. Refusals 1 to 7, 25, 26, 8, 14, 19.
 ///
 /// `seed` has 16 bytes, from `getrandom(2)` or another source of the system's random numbers; it is secret, and used for
 /// no other garbling with the same run number. `run` is the run number: which of the seed's garblings this is; 0 for a seed
@@ -188,7 +198,7 @@ pub fn garble(
     Ok(Garbled { length, calls })
 }
 
-/// Chooses the inputs' tokens for their values. Refusals 1 to 7, 9, 10, 11, 19.
+/// Chooses the inputs' tokens for their values. Refusals 1 to 7, 25, 26, 9, 10, 11, 19.
 ///
 /// `values` has n bytes, each 0 or 1; `zeros` and `ones` have 16n bytes each, the inputs' zero tokens (the front of what
 /// [`garble`] wrote) and one tokens. Writes 16n bytes to `tokens`.
@@ -214,8 +224,7 @@ pub fn encode(circuit: &[u8], values: &[u8], zeros: &[u8], ones: &[u8], tokens: 
 }
 
 /// Evaluates a garbled circuit, and answers the calls of the block cipher made: p in schemes 1 and 2, 2p in schemes
-/// 3 and 4.
-/// Refusals 1 to 7, 11, 12 to 18, 19.
+/// 3 and 4. Refusals 1 to 7, 25, 26, 11, 12 to 18, 19.
 ///
 /// `tokens` has 16n bytes, a token for each input; `material` is exactly as long as [`Garbled::length`] says. Writes
 /// 16(n+q) bytes to `wires`: the token of every wire. Wipe `tokens` and `wires` after use.
@@ -246,9 +255,9 @@ pub fn evaluate(circuit: &[u8], tokens: &[u8], material: &[u8], wires: &mut [u8]
     Ok(calls)
 }
 
-/// Evaluates as [`evaluate`] does, from the gates already read: the answer that a circuit of the bytes made from them would
-/// get. For a caller that runs one circuit many times. Refusals 3, 6, 7, 11, 12 to 18, 19; more than 65,535 gates are
-/// refusal 3.
+/// Evaluates as [`evaluate`] does, from the gates already read: the answer that a circuit of the bytes made from them, with
+/// the mark 43 48, would get. For a caller that runs one circuit many times. Refusals 3, 6, 7, 11, 12 to 18, 19; more than
+/// 65,535 gates are refusal 3, and so are more outputs than gates.
 ///
 /// `n` and `m` are the inputs and the outputs, and `gates` are in the order of their wire numbers; the rest is as in
 /// [`evaluate`], whose three warnings hold here too: it is not constant-time, a garbling is for one evaluation, and
@@ -291,10 +300,47 @@ pub fn evaluate_gates(
     Ok(calls)
 }
 
-/// Decodes the outputs' tokens to bits. Refusals 1 to 7, 11, 12 to 18, 19.
+/// Gathers the outputs' tokens from those of all wires, in the order of the outputs: what [`decode`] takes. Refusals 1 to 7,
+/// 25, 26, 11, 19.
 ///
-/// `tokens` has 16m bytes, the tokens of the outputs (the end of what [`evaluate`] wrote); `material` is exactly as long as
-/// [`Garbled::length`] says. Writes m bytes to `bits`, each 0 or 1.
+/// `wires` has exactly the 16(n+q) bytes that [`evaluate`] wrote. Writes 16m bytes to `tokens`: the token of each output, of a
+/// wire that is named twice both times. With the mark 43 48 they are the last 16m bytes of `wires`. Wipe both after use.
+///
+/// ```
+/// // Wire 3 is wire 1 AND wire 2. The outputs, by name: wire 3, wire 1, and wire 3 again.
+/// let circuit = [
+///     0x43, 0x49, 0, 2, 0, 3, 0, 1, // the mark, n, m, q
+///     0x43, 0x47, 0, 1, 0, 2, 8, // a gate
+///     0x43, 0x4F, 0, 3, 0x43, 0x4F, 0, 1, 0x43, 0x4F, 0, 3, // the outputs
+/// ];
+/// let wires = [[1; 16], [2; 16], [3; 16]].concat();
+/// let mut tokens = [0; 48];
+/// weighhare::output_tokens(&circuit, &wires, &mut tokens)?;
+/// assert_eq!(tokens[..], [[3; 16], [1; 16], [3; 16]].concat());
+/// # Ok::<(), weighhare::Refusal>(())
+/// ```
+pub fn output_tokens(circuit: &[u8], wires: &[u8], tokens: &mut [u8]) -> Result<(), Refusal> {
+    let mut answer = [0; 4];
+    // SAFETY: pointers and lengths are slices'; `tokens` and `answer` are borrowed alone.
+    let number = unsafe {
+        library::weighhare_output_tokens(
+            circuit.as_ptr(),
+            circuit.len(),
+            wires.as_ptr(),
+            wires.len(),
+            tokens.as_mut_ptr(),
+            tokens.len(),
+            &mut answer,
+        )
+    };
+    results(number, answer).map(|_| ())
+}
+
+/// Decodes the outputs' tokens to bits. Refusals 1 to 7, 25, 26, 11, 12 to 18, 19.
+///
+/// `tokens` has 16m bytes, the tokens of the outputs: what [`output_tokens`] writes, for a circuit of mark 43 48 the end of what
+/// [`evaluate`] wrote. `material` is exactly as long as [`Garbled::length`] says. Writes m bytes to `bits`, each 0 or 1, in the
+/// order of the outputs.
 ///
 /// Any tokens decode. Material that somebody else made can be well-formed and wrong: a flipped byte of its last record
 /// turns a 0 into a 1, and nothing here sees it.

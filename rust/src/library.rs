@@ -75,6 +75,16 @@ extern "C" {
         answer: *mut Answer,
     ) -> u8;
 
+    pub fn weighhare_output_tokens(
+        circuit: *const u8,
+        circuit_len: usize,
+        wires: *const u8,
+        wires_len: usize,
+        tokens: *mut u8,
+        tokens_len: usize,
+        answer: *mut Answer,
+    ) -> u8;
+
     pub fn weighhare_decode(
         circuit: *const u8,
         circuit_len: usize,

@@ -5,8 +5,9 @@ use std::fmt;
 
 /// Why an operation refused: the first condition that holds, with its place.
 ///
-/// Conditions are tried in rising number, 5 to 7 together as one search over the gates in file order; an operation skips
-/// what it has no argument for. A condition on several lists or buffers is tried in the order of the arguments.
+/// Conditions are tried in rising number, 5 to 7 together as one search over the gates in file order, but that 25 and 26
+/// come right after 7, together as one search over the output records in file order; an operation skips what it has no
+/// argument for. A condition on several lists or buffers is tried in the order of the arguments.
 ///
 /// A refusal leaves every buffer as it was. Its `Display` says in words what is wrong and where.
 #[derive(Clone, Copy, Debug, PartialEq, Eq, Hash)]
@@ -17,11 +18,11 @@ pub enum Refusal {
         /// The circuit's length.
         length: usize,
     },
-    /// 2: the circuit does not begin with the mark 43 48. Its place is 0.
+    /// 2: the circuit does not begin with the mark 43 48 or 43 49. Its place is 0.
     CircuitMark,
     /// 3: the circuit's n, m or q breaks a limit ([`Sizes`](crate::Sizes)). Its place is 2.
     Limits,
-    /// 4: the circuit's length is not 8+7q.
+    /// 4: the circuit's length is not 8+7q, or 8+7q+4m with the mark 43 49.
     CircuitLength {
         /// The circuit's length.
         length: usize,
@@ -100,15 +101,25 @@ pub enum Refusal {
         /// The wire.
         wire: u16,
     },
+    /// 25: an output record does not begin with the mark 43 4F.
+    OutputMark {
+        /// The output, from 1.
+        output: u16,
+    },
+    /// 26: an output record's wire is 0 or above n+q.
+    OutputWire {
+        /// The output, from 1.
+        output: u16,
+    },
 }
 
 impl Refusal {
-    /// The refusal's number, 1 to 20.
+    /// The refusal's number: 1 to 20, 25 or 26. Nothing gives 21 to 24.
     pub fn number(self) -> u8 {
         self.number_and_place().0
     }
 
-    /// The refusal's place: a length, a wire number, an index or an offset, by its number.
+    /// The refusal's place: a length, a wire number, an output's number, an index or an offset, by its number.
     pub fn place(self) -> usize {
         self.number_and_place().1
     }
@@ -135,10 +146,12 @@ impl Refusal {
             Self::LastRecord { start } => (18, start),
             Self::Room { needed } => (19, needed),
             Self::PickWire { wire } => (20, wire.into()),
+            Self::OutputMark { output } => (25, output.into()),
+            Self::OutputWire { output } => (26, output.into()),
         }
     }
 
-    /// The refusal of that number at that place, if there is one: a wire number has 16 bits, a scheme 8,
+    /// The refusal of that number at that place, if there is one: a wire number and an output's have 16 bits, a scheme 8,
     /// and 2, 3, 13 and 15 have one place each.
     pub fn from_number(number: u8, place: usize) -> Option<Self> {
         let refusal = match number {
@@ -174,6 +187,12 @@ impl Refusal {
             20 => Self::PickWire {
                 wire: place.try_into().ok()?,
             },
+            25 => Self::OutputMark {
+                output: place.try_into().ok()?,
+            },
+            26 => Self::OutputWire {
+                output: place.try_into().ok()?,
+            },
             _ => return None,
         };
         (refusal.place() == place).then_some(refusal)
@@ -194,9 +213,9 @@ impl fmt::Display for Refusal {
     fn fmt(&self, f: &mut fmt::Formatter<'_>) -> fmt::Result {
         match *self {
             Self::CircuitShort { length } => write!(f, "the circuit has {}, a header needs 8", Bytes(length)),
-            Self::CircuitMark => write!(f, "the circuit does not begin with the mark 43 48"),
+            Self::CircuitMark => write!(f, "the circuit does not begin with the mark 43 48 or 43 49"),
             Self::Limits => write!(f, "the circuit's sizes, at byte 2, break a limit: {LIMITS}"),
-            Self::CircuitLength { length } => write!(f, "the circuit has {}, not 8 and 7 for each gate", Bytes(length)),
+            Self::CircuitLength { length } => write!(f, "the circuit has {}, {NOT_WHOLE}", Bytes(length)),
             Self::GateMark { wire } => write!(f, "the gate of wire {wire} does not begin with the mark 43 47"),
             Self::Operands { wire } => write!(
                 f,
@@ -218,11 +237,16 @@ impl fmt::Display for Refusal {
             }
             Self::Room { needed } => write!(f, "an output buffer is too short, it needs {}", Bytes(needed)),
             Self::PickWire { wire } => write!(f, "wire {wire} is not in the token lists"),
+            Self::OutputMark { output } => {
+                write!(f, "the record of output {output} does not begin with the mark 43 4F")
+            }
+            Self::OutputWire { output } => write!(f, "the record of output {output} has a wire that is 0 or above n+q"),
         }
     }
 }
 
-const LIMITS: &str = "n from 2 to 4096, m from 1 to q, q at least 1, n+q at most 65535";
+const LIMITS: &str = "n from 2 to 4096, m from 1 to q, or to n+q with the mark 43 49, q at least 1, n+q at most 65535";
+const NOT_WHOLE: &str = "not 8 and 7 for each gate, and with the mark 43 49 another 4 for each output";
 const CODES: &str = "1, 2, 4, 7, 8, 11, 13, 14 (charged), 3, 5, 6, 9, 10, 12 (free)";
 const NOT_ITS_LENGTH: &str = "which is not the length for its scheme and the circuit";
 
@@ -232,44 +256,53 @@ impl Error for Refusal {}
 mod tests {
     use super::Refusal;
 
-    /// What is said of each refusal, in the order of their numbers, each at a place that it can have.
-    const SAID: [(usize, &str); 20] = [
-        (7, "the circuit has 7 bytes, a header needs 8"),
-        (0, "the circuit does not begin with the mark 43 48"),
+    /// What is said of each refusal, by its number, at a place that it can have.
+    const SAID: [(u8, usize, &str); 22] = [
+        (1, 7, "the circuit has 7 bytes, a header needs 8"),
+        (2, 0, "the circuit does not begin with the mark 43 48 or 43 49"),
         (
+            3,
             2,
             "the circuit's sizes, at byte 2, break a limit: \
-             n from 2 to 4096, m from 1 to q, q at least 1, n+q at most 65535",
+             n from 2 to 4096, m from 1 to q, or to n+q with the mark 43 49, q at least 1, n+q at most 65535",
         ),
-        (14, "the circuit has 14 bytes, not 8 and 7 for each gate"),
-        (3, "the gate of wire 3 does not begin with the mark 43 47"),
-        (3, "the gate of wire 3 has operands that are not 1 <= a < b < 3"),
         (
+            4,
+            14,
+            "the circuit has 14 bytes, not 8 and 7 for each gate, and with the mark 43 49 another 4 for each output",
+        ),
+        (5, 3, "the gate of wire 3 does not begin with the mark 43 47"),
+        (6, 3, "the gate of wire 3 has operands that are not 1 <= a < b < 3"),
+        (
+            7,
             3,
             "the gate of wire 3 has a code that is not one of \
              1, 2, 4, 7, 8, 11, 13, 14 (charged), 3, 5, 6, 9, 10, 12 (free)",
         ),
-        (15, "the seed has 15 bytes, it needs 16"),
-        (1, "the value list has 1 byte, not one for each input"),
-        (1, "the value at index 1 is neither 0 nor 1"),
-        (31, "a token list has the wrong length, 31 bytes"),
-        (8, "the material has 8 bytes, a header needs 9"),
-        (0, "the material does not begin with the mark 47 48"),
-        (5, "the scheme is 5, it must be 1, 2, 3 or 4"),
-        (3, "the material's n, m or q, at byte 3, is not the circuit's"),
+        (8, 15, "the seed has 15 bytes, it needs 16"),
+        (9, 1, "the value list has 1 byte, not one for each input"),
+        (10, 1, "the value at index 1 is neither 0 nor 1"),
+        (11, 31, "a token list has the wrong length, 31 bytes"),
+        (12, 8, "the material has 8 bytes, a header needs 9"),
+        (13, 0, "the material does not begin with the mark 47 48"),
+        (14, 5, "the scheme is 5, it must be 1, 2, 3 or 4"),
+        (15, 3, "the material's n, m or q, at byte 3, is not the circuit's"),
         (
+            16,
             79,
             "the material has 79 bytes, which is not the length for its scheme and the circuit",
         ),
-        (3, "the row record due for wire 3 has a wrong mark or wire number"),
-        (77, "the last record, at byte 77, has a wrong mark or a byte over 1"),
-        (48, "an output buffer is too short, it needs 48 bytes"),
-        (0, "wire 0 is not in the token lists"),
+        (17, 3, "the row record due for wire 3 has a wrong mark or wire number"),
+        (18, 77, "the last record, at byte 77, has a wrong mark or a byte over 1"),
+        (19, 48, "an output buffer is too short, it needs 48 bytes"),
+        (20, 0, "wire 0 is not in the token lists"),
+        (25, 2, "the record of output 2 does not begin with the mark 43 4F"),
+        (26, 3, "the record of output 3 has a wire that is 0 or above n+q"),
     ];
 
     #[test]
     fn each_says_what_is_wrong_and_where() {
-        for (number, (place, said)) in (1..).zip(SAID) {
+        for (number, place, said) in SAID {
             let refusal = Refusal::from_number(number, place).expect("a refusal");
             assert_eq!(refusal.to_string(), said, "refusal {number}");
         }
@@ -277,7 +310,7 @@ mod tests {
 
     #[test]
     fn each_keeps_its_number_and_place() {
-        for (number, (place, _)) in (1..).zip(SAID) {
+        for (number, place, _) in SAID {
             let refusal = Refusal::from_number(number, place).expect("a refusal");
             assert_eq!((refusal.number(), refusal.place()), (number, place));
         }
@@ -285,13 +318,19 @@ mod tests {
 
     #[test]
     fn no_other_number_and_no_other_place() {
-        assert_eq!(Refusal::from_number(0, 0), None);
-        assert_eq!(Refusal::from_number(21, 0), None);
+        for number in (0..=255).filter(|number| SAID.iter().all(|said| said.0 != *number)) {
+            for place in [0, 1, 2, 3] {
+                assert_eq!(Refusal::from_number(number, place), None, "{number} is none");
+            }
+        }
         for (number, place) in [(2, 1), (3, 0), (13, 1), (15, 2)] {
             assert_eq!(Refusal::from_number(number, place), None, "{number} has one place");
         }
         for number in [5, 6, 7, 17, 20] {
             assert_eq!(Refusal::from_number(number, 65_536), None, "a wire has 16 bits");
+        }
+        for number in [25, 26] {
+            assert_eq!(Refusal::from_number(number, 65_536), None, "an output has 16 bits");
         }
         assert_eq!(Refusal::from_number(14, 256), None, "a scheme has 8 bits");
     }

@@ -33,6 +33,12 @@ fn of_a_circuit() {
     assert_eq!(check(&[]), Some(Refusal::CircuitShort { length: 0 }));
     assert_eq!(check(&AND[..7]), Some(Refusal::CircuitShort { length: 7 }));
     assert_eq!(check(&and_with(1, 0x47)), Some(Refusal::CircuitMark));
+    assert_eq!(check(&and_with(1, 0x4A)), Some(Refusal::CircuitMark));
+    assert_eq!(
+        check(&and_with(1, 0x49)),
+        Some(Refusal::CircuitLength { length: 15 }),
+        "no output record"
+    );
     assert_eq!(check(&and_with(3, 1)), Some(Refusal::Limits));
     assert_eq!(check(&AND[..14]), Some(Refusal::CircuitLength { length: 14 }));
     assert_eq!(check(&and_with(9, 0x48)), Some(Refusal::GateMark { wire: 3 }));

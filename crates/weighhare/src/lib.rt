@@ -1,7 +1,7 @@
-// The C interface: the operations of 01 as exported functions, declared and explained in include/weighhare.h. Each returns the
+// The C interface: the operations of 01 and of 02 as exported functions, declared and explained in include/weighhare.h. Each returns the
 // refusal's number, 0 if none, and sets out the rest of its answer in four words.
 ghost use mathlib.Core.Path.{_≡_};
-ghost use Rattle.model.specs.Operations.{checkAnswer, PlainIs, GarbleIs, EncodeIs, EvaluateIs, EvaluateGatesIs, DecodeIs};
+ghost use Rattle.model.specs.Operations.{checkAnswer, PlainIs, GarbleIs, EncodeIs, EvaluateIs, EvaluateGatesIs, OutputTokensIs, DecodeIs};
 ghost use Rattle.weighhare.specs.Out.{Handed, verdictOut, sizesOut, madeOut, callsOut};
 ghost use Rattle.weighhare.specs.Pick.{PickIs, partOut};
 use crate::answer::evaluated;
@@ -109,6 +109,20 @@ pub extern "C" fn weighhare_evaluate_gates(
 {
     let e = evaluate::list::evaluate_gates(n, m, gates, tokens, material, wires);
     evaluated(answer, e)
+}
+
+// The outputs' tokens, in their order.
+#[no_mangle]
+pub extern "C" fn weighhare_output_tokens(
+    circuit: &[u8],
+    wires: &[u8],
+    tokens: &mut [u8],
+    answer: &mut [u64; 4],
+) -> u8
+    ensures { λ r. ⌜ Handed (λ x. OutputTokensIs (now (circuit .entry)) (now (wires .entry)) (now (tokens .entry)) x (now (tokens .exit))) verdictOut r (now (answer .exit)) ⌝ }
+{
+    let done = evaluate::output_tokens(circuit, wires, tokens);
+    ran(answer, done)
 }
 
 // Decode: the outputs' bits.
