@@ -12,7 +12,7 @@
 enum { MOST_LISTS = 4, MOST_OUTPUTS = 3 };
 
 /* The operations, numbered as in the file. */
-enum operation { CHECK, PLAIN, GARBLE, ENCODE, EVALUATE, EVALUATE_GATES, DECODE, PICK, OPERATIONS };
+enum operation { CHECK, PLAIN, GARBLE, ENCODE, EVALUATE, EVALUATE_GATES, OUTPUT_TOKENS, DECODE, PICK, OPERATIONS };
 
 /* Bytes in memory of the case itself. */
 struct bytes {

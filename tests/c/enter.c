@@ -26,6 +26,8 @@ uint8_t enter(const struct call *call, const struct lent *in, const struct lent 
         size_t q = in[0].length / sizeof *gates;
         return weighhare_evaluate_gates(call->n, call->m, gates, q, LIST(in[1]), LIST(in[2]), LIST(out[0]), answer);
     }
+    case OUTPUT_TOKENS:
+        return weighhare_output_tokens(LIST(in[0]), LIST(in[1]), LIST(out[0]), answer);
     case DECODE:
         return weighhare_decode(LIST(in[0]), LIST(in[1]), LIST(in[2]), LIST(out[0]), answer);
     case PICK:

@@ -112,6 +112,8 @@ unsafe fn enter(call: &Call, inputs: &[List], outs: &[List], answer: &mut librar
             library::weighhare_evaluate(c, cl, t, tl, m, ml, w, wl, answer),
         (Operation::EvaluateGates, &[(g, gl), (t, tl), (m, ml)], &[(w, wl)]) =>
             library::weighhare_evaluate_gates(call.n, call.m, g.cast(), gl / interface::GATE, t, tl, m, ml, w, wl, answer),
+        (Operation::OutputTokens, &[(c, cl), (w, wl)], &[(t, tl)]) =>
+            library::weighhare_output_tokens(c, cl, w, wl, t, tl, answer),
         (Operation::Decode, &[(c, cl), (t, tl), (m, ml)], &[(b, bl)]) =>
             library::weighhare_decode(c, cl, t, tl, m, ml, b, bl, answer),
         (Operation::Pick, &[(z, zl), (o, ol)], []) =>

@@ -5,7 +5,7 @@ use crate::circuit::{Circuit, Gate, Sizes};
 use crate::operations as op;
 use crate::refused::Refused;
 
-/// An operation (01, Operations).
+/// An operation (01, Operations; 02, job 8).
 #[derive(Clone, Copy, Debug, Default, PartialEq, Eq, PartialOrd, Ord)]
 pub enum Operation {
     /// Check.
@@ -21,6 +21,8 @@ pub enum Operation {
     Evaluate,
     /// Evaluate, from a list of gates.
     EvaluateGates,
+    /// The outputs' tokens, in their order.
+    OutputTokens,
     /// Decode.
     Decode,
     /// Pick.
@@ -29,30 +31,52 @@ pub enum Operation {
 
 impl Operation {
     /// All operations.
-    pub const ALL: [Operation; 8] = [
+    pub const ALL: [Operation; 9] = [
         Operation::Check,
         Operation::Plain,
         Operation::Garble,
         Operation::Encode,
         Operation::Evaluate,
         Operation::EvaluateGates,
+        Operation::OutputTokens,
         Operation::Decode,
         Operation::Pick,
     ];
 
-    /// The numbers of the refusals that the operation has arguments for.
+    /// Whether it takes a circuit's bytes: then the circuit may have either mark.
+    pub fn takes_bytes(self) -> bool {
+        !matches!(self, Operation::EvaluateGates | Operation::Pick)
+    }
+
+    /// The numbers of the refusals that the operation has arguments for, in the order in which they are
+    /// tried: 25 and 26 come right after 7.
     pub fn refusals(self) -> &'static [u8] {
         match self {
-            Operation::Check => &[1, 2, 3, 4, 5, 6, 7],
-            Operation::Plain => &[1, 2, 3, 4, 5, 6, 7, 9, 10, 19],
-            Operation::Garble => &[1, 2, 3, 4, 5, 6, 7, 8, 14, 19],
-            Operation::Encode => &[1, 2, 3, 4, 5, 6, 7, 9, 10, 11, 19],
-            Operation::Evaluate | Operation::Decode => {
-                &[1, 2, 3, 4, 5, 6, 7, 11, 12, 13, 14, 15, 16, 17, 18, 19]
-            }
+            Operation::Check => &[1, 2, 3, 4, 5, 6, 7, 25, 26],
+            Operation::Plain => &[1, 2, 3, 4, 5, 6, 7, 25, 26, 9, 10, 19],
+            Operation::Garble => &[1, 2, 3, 4, 5, 6, 7, 25, 26, 8, 14, 19],
+            Operation::Encode => &[1, 2, 3, 4, 5, 6, 7, 25, 26, 9, 10, 11, 19],
+            Operation::Evaluate | Operation::Decode => &[
+                1, 2, 3, 4, 5, 6, 7, 25, 26, 11, 12, 13, 14, 15, 16, 17, 18, 19,
+            ],
             Operation::EvaluateGates => &[3, 6, 7, 11, 12, 13, 14, 15, 16, 17, 18, 19],
+            Operation::OutputTokens => &[1, 2, 3, 4, 5, 6, 7, 25, 26, 11, 19],
             Operation::Pick => &[10, 11, 20],
         }
+    }
+
+    /// The same without 25 and 26: those that 01 has. The stored files of cases that were there before
+    /// 02's job 8 are drawn from these.
+    pub fn refusals_of_01(self) -> Vec<u8> {
+        let numbers = self.refusals().iter().copied();
+        numbers.filter(|&number| number <= 20).collect()
+    }
+
+    /// How many of the operation's conditions are tried before that of a number which it has.
+    pub fn tried_before(self, number: u8) -> usize {
+        let mut numbers = self.refusals().iter();
+        let place = numbers.position(|&tried| tried == number);
+        place.expect("a refusal of the operation")
     }
 }
 
@@ -81,7 +105,7 @@ pub struct Call {
     pub zero: Vec<u8>,
     /// The one list of encode and pick.
     pub one: Vec<u8>,
-    /// The tokens of evaluate and decode.
+    /// The tokens of evaluate and decode; those of all wires, which the operation for the outputs' takes.
     pub tokens: Vec<u8>,
     /// The material of evaluate and decode.
     pub material: Vec<u8>,
@@ -191,6 +215,7 @@ impl Call {
                 op::evaluate_gates(self.n, self.m, &self.gates, tokens, material, out)
                     .map(|calls| vec![calls])
             }
+            Operation::OutputTokens => op::output_tokens(circuit, tokens, out).map(nothing),
             Operation::Decode => op::decode(circuit, tokens, material, out).map(nothing),
             Operation::Check | Operation::Garble | Operation::Pick => {
                 unreachable!("run sends these elsewhere")

@@ -1,7 +1,8 @@
-//! Cases of the chain garble, encode, evaluate, decode on one circuit, each call handed what those
-//! before it wrote (01, demand 3).
+//! Cases of the chain garble, encode, evaluate, the outputs' tokens, decode on one circuit, each call handed
+//! what those before it wrote (01, demand 3; 02, job 8).
 
 use crate::block::BLOCK;
+use crate::circuit::Circuit;
 use crate::evaluator::SCHEMES;
 use crate::generate;
 use crate::lines;
@@ -26,10 +27,16 @@ pub struct Chain {
     pub scheme: u8,
     fill: u8,
     /// The lengths of the buffers: material, zero tokens, one tokens, tokens, wires, bits.
-    lens: [usize; 6],
+    pub lens: [usize; 6],
+    /// The length of the buffer of the outputs' tokens.
+    pub output_room: usize,
 }
 
-/// The call that refused, 1 to 4, and its refusal.
+/// The room for the outputs' tokens of a line that does not say it.
+const OUTPUT_ROOM: usize = 1 << 16;
+
+/// The call that refused, and its refusal: garble is 1, encode 2, evaluate 3, decode 4, and the outputs'
+/// tokens, which come before decode, 5.
 type Ended = Result<(), (u8, Refused)>;
 
 /// The call that must refuse, and its refusal's number; nothing where the chain must run.
@@ -48,25 +55,37 @@ impl Chain {
         let length = garbled.map_err(by(1))?.length as usize;
         let sizes = op::check(circuit).map_err(by(1))?;
         let list = BLOCK * sizes.n;
-        let end = BLOCK * sizes.wires();
+        let (end, outputs) = (BLOCK * sizes.wires(), BLOCK * sizes.m);
         let material = &material[..length];
         let (zeros, ones) = (&zeros[..list], &ones[..list]);
         op::encode(circuit, &self.values, zeros, ones, tokens).map_err(by(2))?;
         op::evaluate(circuit, &tokens[..list], material, wires).map_err(by(3))?;
-        let outputs = &wires[end - BLOCK * sizes.m..end];
-        op::decode(circuit, outputs, material, bits).map_err(by(4))
+        let mut chosen = vec![self.fill; self.output_room];
+        op::output_tokens(circuit, &wires[..end], &mut chosen).map_err(by(5))?;
+        op::decode(circuit, &chosen[..outputs], material, bits).map_err(by(4))
     }
 
     /// The line of a chain of run 0. `due` is the call that must refuse, and its refusal's number.
     pub fn case(&self, due: Due) -> String {
         assert_eq!(self.run, 0, "a line that has no run number");
+        assert_eq!(self.output_room, OUTPUT_ROOM, "a line that does not say it");
         lines::line(&self.fields(due))
     }
 
     /// The line of a chain that has its run number.
     pub fn case_with_run(&self, due: Due) -> String {
+        assert_eq!(self.output_room, OUTPUT_ROOM, "a line that does not say it");
         let mut fields = self.fields(due);
         lines::add_run(&mut fields[SETTING], self.run);
+        lines::line(&fields)
+    }
+
+    /// The line of a chain that has its run number and the room for the outputs' tokens.
+    pub fn case_with_room(&self, due: Due) -> String {
+        let mut fields = self.fields(due);
+        lines::add_run(&mut fields[SETTING], self.run);
+        assert!(self.output_room <= OUTPUT_ROOM, "more than `vectors` has");
+        fields[SETTING].extend((self.output_room as u32).to_be_bytes());
         lines::line(&fields)
     }
 
@@ -97,10 +116,10 @@ impl Chain {
 
     /// The bits of a chain that ran are those of the plain circuit.
     fn check_plain(&self, bits: &[u8]) {
-        let sizes = op::check(&self.circuit).expect("an accepted circuit");
-        let mut carried = vec![0; sizes.wires()];
+        let circuit = Circuit::read(&self.circuit).expect("an accepted circuit");
+        let mut carried = vec![0; circuit.sizes().wires()];
         op::plain(&self.circuit, &self.values, &mut carried).expect("room");
-        assert_eq!(bits[..sizes.m], carried[sizes.wires() - sizes.m..]);
+        assert_eq!(bits[..circuit.sizes().m], circuit.of_outputs(&carried));
     }
 }
 
@@ -124,6 +143,7 @@ pub fn chain_on(random: &mut Random, scheme: Scheme, circuit: Vec<u8>) -> Chain 
         scheme: scheme.byte(),
         fill: random.byte(),
         lens: needed.map(|length| length + random.below(20)),
+        output_room: OUTPUT_ROOM,
     }
 }
 
@@ -154,7 +174,7 @@ pub fn cases() -> String {
     text
 }
 
-/// The calls, and the refusals that they can give in a chain, in order.
+/// The calls, and the refusals that they can give in a chain, in order, as the lines of 01 have them.
 pub const ENDS: [(u8, u8); 15] = [
     (1, 1),
     (1, 2),
@@ -178,7 +198,9 @@ pub fn spoil(chain: &mut Chain, call: u8, number: u8) {
     let circuit = &mut chain.circuit;
     match (call, number) {
         (1, 1) => circuit.truncate(7),
-        (1, 2) => circuit[1] ^= 1,
+        // 01 refused 43 49 too. In a circuit under 8 bytes, which comes first, stored cases have it still.
+        (1, 2) if circuit.len() < 8 => circuit[1] ^= 1,
+        (1, 2) => circuit[1] = 0x4A,
         (1, 3) => circuit[4..6].fill(0),
         (1, 4) => circuit.push(0),
         (1, 5) => circuit[9] ^= 1,

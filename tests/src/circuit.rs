@@ -1,11 +1,56 @@
-//! Circuits: reading with refusals 1 to 7, and the plain circuit (01, Circuit; 02, job 2).
+//! Circuits: reading with refusals 1 to 7, 25 and 26, and the plain circuit (01, Circuit; 02, jobs 2
+//! and 8).
 
 use crate::refused::{refuse_if, Refused};
 
-const MARK: [u8; 2] = [0x43, 0x48];
 const GATE_MARK: [u8; 2] = [0x43, 0x47];
+const OUTPUT_MARK: [u8; 2] = [0x43, 0x4F];
 const HEADER: usize = 8;
 const RECORD: usize = 7;
+const OUTPUT_RECORD: usize = 4;
+
+/// The mark of a circuit's header, which says where its outputs are (02, job 8).
+#[derive(Clone, Copy, Debug, PartialEq, Eq)]
+pub enum Mark {
+    /// 43 48: the last m wires.
+    LastWires,
+    /// 43 49: the wires of the m output records after the gates.
+    Named,
+}
+
+impl Mark {
+    /// The mark that bytes begin with, if there is one.
+    pub fn of(bytes: &[u8]) -> Option<Mark> {
+        [Mark::LastWires, Mark::Named]
+            .into_iter()
+            .find(|mark| bytes.starts_with(&mark.bytes()))
+    }
+
+    /// Its two bytes.
+    pub fn bytes(self) -> [u8; 2] {
+        match self {
+            Mark::LastWires => [0x43, 0x48],
+            Mark::Named => [0x43, 0x49],
+        }
+    }
+
+    /// The most outputs: q, or n+q.
+    fn most_outputs(self, sizes: Sizes) -> usize {
+        match self {
+            Mark::LastWires => sizes.q,
+            Mark::Named => sizes.wires(),
+        }
+    }
+
+    /// The circuit's length: 8+7q, or 8+7q+4m.
+    fn length(self, sizes: Sizes) -> usize {
+        let outputs = match self {
+            Mark::LastWires => 0,
+            Mark::Named => OUTPUT_RECORD * sizes.m,
+        };
+        HEADER + RECORD * sizes.q + outputs
+    }
+}
 
 /// A truth value, which is not a colour.
 #[derive(Clone, Copy, Debug, PartialEq, Eq)]
@@ -77,10 +122,11 @@ pub struct Sizes {
 }
 
 impl Sizes {
-    /// Condition 3; n+q is added where it cannot overflow.
-    fn check(self) -> Result<(), Refused> {
+    /// Condition 3 for a mark; n+q is added where it cannot overflow.
+    fn check(self, mark: Mark) -> Result<(), Refused> {
         let Sizes { n, m, q, .. } = self;
-        let in_limit = (2..=4096).contains(&n) && 1 <= m && m <= q && n + q <= 65_535;
+        let outputs = 1..=mark.most_outputs(self);
+        let in_limit = (2..=4096).contains(&n) && 1 <= q && n + q <= 65_535 && outputs.contains(&m);
         refuse_if(!in_limit, 3, 2)
     }
 
@@ -96,11 +142,14 @@ impl Sizes {
     }
 }
 
-/// A circuit for which none of conditions 1 to 7 holds.
+/// A circuit for which none of conditions 1 to 7, 25 and 26 holds.
 #[derive(Clone, Debug, PartialEq, Eq)]
 pub struct Circuit {
+    mark: Mark,
     sizes: Sizes,
     gates: Vec<Gate>,
+    /// The wire of each output, in order: the last m wires, or those named.
+    outputs: Vec<u16>,
 }
 
 /// A big-endian number of 2 bytes.
@@ -108,9 +157,25 @@ fn number(bytes: &[u8], at: usize) -> u16 {
     u16::from_be_bytes([bytes[at], bytes[at + 1]])
 }
 
-/// The bytes made from n, m and a list of at most 65,535 gates, accepted or not.
+/// The bytes made from n, m and a list of at most 65,535 gates, accepted or not, whose outputs are the
+/// last m wires.
 pub fn to_bytes(n: u16, m: u16, gates: &[Gate]) -> Vec<u8> {
-    let mut bytes = MARK.to_vec();
+    marked_bytes(Mark::LastWires, n, m, gates)
+}
+
+/// The same with the wires of the outputs, at most 65,535, named (02, job 8).
+pub fn named_bytes(n: u16, outputs: &[u16], gates: &[Gate]) -> Vec<u8> {
+    let mut bytes = marked_bytes(Mark::Named, n, outputs.len() as u16, gates);
+    for output in outputs {
+        bytes.extend(OUTPUT_MARK);
+        bytes.extend(output.to_be_bytes());
+    }
+    bytes
+}
+
+/// The header of a mark, and the gates.
+fn marked_bytes(mark: Mark, n: u16, m: u16, gates: &[Gate]) -> Vec<u8> {
+    let mut bytes = mark.bytes().to_vec();
     for size in [n, m, gates.len() as u16] {
         bytes.extend(size.to_be_bytes());
     }
@@ -123,40 +188,73 @@ pub fn to_bytes(n: u16, m: u16, gates: &[Gate]) -> Vec<u8> {
     bytes
 }
 
+/// The last m wires.
+fn last_wires(sizes: Sizes) -> Vec<u16> {
+    let wires = sizes.wires();
+    (wires - sizes.m + 1..=wires)
+        .map(|wire| wire as u16)
+        .collect()
+}
+
+/// The wires of output records; conditions 25 and 26. Outputs are counted from 1.
+fn read_outputs(records: &[u8], wires: usize) -> Result<Vec<u16>, Refused> {
+    let mut outputs = Vec::with_capacity(records.len() / OUTPUT_RECORD);
+    for (record, output) in records.chunks_exact(OUTPUT_RECORD).zip(1..) {
+        refuse_if(!record.starts_with(&OUTPUT_MARK), 25, output)?;
+        let wire = number(record, 2);
+        refuse_if(wire == 0 || usize::from(wire) > wires, 26, output)?;
+        outputs.push(wire);
+    }
+    Ok(outputs)
+}
+
 impl Circuit {
-    /// Reads circuit bytes, or gives the refusal of conditions 1 to 7.
+    /// Reads circuit bytes, or gives the refusal of conditions 1 to 7, 25 and 26.
     pub fn read(bytes: &[u8]) -> Result<Circuit, Refused> {
         refuse_if(bytes.len() < HEADER, 1, bytes.len())?;
-        refuse_if(!bytes.starts_with(&MARK), 2, 0)?;
+        let mark = Mark::of(bytes).ok_or(Refused::new(2, 0))?;
         let [n, m, q] = [2, 4, 6].map(|at| usize::from(number(bytes, at)));
         let sizes = Sizes { n, m, q, p: 0 };
-        sizes.check()?;
-        refuse_if(bytes.len() != HEADER + RECORD * q, 4, bytes.len())?;
-        let mut circuit = Circuit::without_gates(sizes);
-        for (record, wire) in bytes[HEADER..].chunks_exact(RECORD).zip(n + 1..) {
+        sizes.check(mark)?;
+        refuse_if(bytes.len() != mark.length(sizes), 4, bytes.len())?;
+        let (gates, outputs) = bytes[HEADER..].split_at(RECORD * q);
+        let mut circuit = Circuit::without_gates(mark, sizes);
+        for (record, wire) in gates.chunks_exact(RECORD).zip(n + 1..) {
             refuse_if(!record.starts_with(&GATE_MARK), 5, wire)?;
             let (a, b, code) = (number(record, 2), number(record, 4), record[6]);
             circuit.push(Gate { a, b, code }, wire)?;
         }
+        if mark == Mark::Named {
+            circuit.outputs = read_outputs(outputs, sizes.wires())?;
+        }
         Ok(circuit)
     }
 
-    /// Takes n, m and the gates already read; conditions 3, 6 and 7.
+    /// Takes n, m and the gates already read; conditions 3, 6 and 7. The outputs are the last m wires.
     pub fn from_gates(n: u16, m: u16, gates: &[Gate]) -> Result<Circuit, Refused> {
         let (n, m, q) = (usize::from(n), usize::from(m), gates.len());
         refuse_if(q > 65_535, 3, 2)?;
         let sizes = Sizes { n, m, q, p: 0 };
-        sizes.check()?;
-        let mut circuit = Circuit::without_gates(sizes);
+        sizes.check(Mark::LastWires)?;
+        let mut circuit = Circuit::without_gates(Mark::LastWires, sizes);
         for (&gate, wire) in gates.iter().zip(n + 1..) {
             circuit.push(gate, wire)?;
         }
         Ok(circuit)
     }
 
-    fn without_gates(sizes: Sizes) -> Circuit {
-        let gates = Vec::with_capacity(sizes.q);
-        Circuit { sizes, gates }
+    /// A circuit of sizes within their limits, with neither gates nor named outputs yet.
+    fn without_gates(mark: Mark, sizes: Sizes) -> Circuit {
+        let outputs = match mark {
+            Mark::LastWires => last_wires(sizes),
+            Mark::Named => Vec::new(),
+        };
+        Circuit {
+            mark,
+            sizes,
+            gates: Vec::with_capacity(sizes.q),
+            outputs,
+        }
     }
 
     fn push(&mut self, gate: Gate, wire: usize) -> Result<(), Refused> {
@@ -164,6 +262,13 @@ impl Circuit {
         self.sizes.p += usize::from(gate.kind() == Some(Kind::Charged));
         self.gates.push(gate);
         Ok(())
+    }
+
+    /// Of a list of items, one for each wire, those of the outputs, in order.
+    pub fn of_outputs<T: Copy>(&self, items: &[T]) -> Vec<T> {
+        // Wires are numbered from 1.
+        let item = |&wire: &u16| items[usize::from(wire) - 1];
+        self.outputs.iter().map(item).collect()
     }
 
     /// n, m, q and p.
@@ -183,9 +288,22 @@ impl Circuit {
             .map(|(wire, _)| wire)
     }
 
-    /// The circuit's bytes.
+    /// The circuit's bytes, with the mark that it has.
     pub fn to_bytes(&self) -> Vec<u8> {
-        to_bytes(self.sizes.n as u16, self.sizes.m as u16, &self.gates)
+        let Sizes { n, m, .. } = self.sizes;
+        match self.mark {
+            Mark::LastWires => to_bytes(n as u16, m as u16, &self.gates),
+            Mark::Named => named_bytes(n as u16, &self.outputs, &self.gates),
+        }
+    }
+
+    /// The same circuit with its outputs named: "43 48 circuits stand for the list of their last m
+    /// wires" (02, job 8).
+    pub fn with_named_outputs(&self) -> Circuit {
+        Circuit {
+            mark: Mark::Named,
+            ..self.clone()
+        }
     }
 
     /// Works something over all wires in order: `inputs` first, then one item for each gate, made

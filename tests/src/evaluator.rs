@@ -111,7 +111,8 @@ pub fn own_from(
         op::encode(bytes, &values, &zeros[..BLOCK * n], &ones, &mut tokens).expect("room");
         if operation == Operation::Decode {
             op::evaluate(bytes, &tokens, &material, &mut held).expect("room");
-            tokens = held.split_off(wires - BLOCK * m);
+            tokens = vec![0; BLOCK * m];
+            op::output_tokens(bytes, &held, &mut tokens).expect("room");
         }
         let mut call = exact(random, operation, bytes, tokens, material.clone());
         call.lens[0] += random.below(3);

@@ -5,6 +5,7 @@ pub mod damage;
 pub mod edges;
 pub mod limits;
 pub mod mixed;
+pub mod outputs;
 
 use crate::block::{Block, Colour, BLOCK};
 use crate::call::{Call, Operation};
@@ -13,6 +14,8 @@ use crate::material::{self, Material};
 use crate::operations;
 use crate::random::Random;
 use crate::scheme::Scheme;
+
+use outputs::any_outputs;
 
 // 01's codes. The stored files of cases are drawn from these two lists: a longer one would change
 // every case.
@@ -75,7 +78,8 @@ fn use_one_operand(random: &mut Random, codes: Vec<&mut u8>) {
     }
 }
 
-/// The circuit with about half of its free gates turned into gates that use one operand.
+/// The circuit, whose outputs are its last wires, with about half of its free gates turned into gates
+/// that use one operand.
 pub fn with_one_operand(random: &mut Random, mut bytes: Vec<u8>) -> Vec<u8> {
     let records = bytes[8..].chunks_exact_mut(7);
     use_one_operand(random, records.map(|record| &mut record[6]).collect());
@@ -177,10 +181,11 @@ pub fn call(random: &mut Random, operation: Operation) -> Call {
     call_on(random, operation, &bytes)
 }
 
-/// A call of the operation that is not refused, on a circuit of all codes, by any scheme; of garble in
-/// any run.
+/// A call of the operation that is not refused, on a circuit of all codes and either mark, by any scheme;
+/// of garble in any run.
 pub fn any_call(random: &mut Random, operation: Operation) -> Call {
     let bytes = any_small_circuit(random);
+    let bytes = any_outputs(random, operation, bytes);
     let mut call = call_on(random, operation, &bytes);
     any_scheme(random, &mut call);
     add_run(random, &mut call);
@@ -212,6 +217,7 @@ pub fn call_on(random: &mut Random, operation: Operation, bytes: &[u8]) -> Call 
         Operation::Evaluate | Operation::EvaluateGates => {
             add_material(random, &mut call, &circuit, n)
         }
+        Operation::OutputTokens => call.tokens = tokens(random, circuit.sizes().wires()),
         Operation::Decode => add_material(random, &mut call, &circuit, m),
         Operation::Pick => add_lists(random, &mut call, n),
     }
@@ -298,6 +304,7 @@ pub fn room(call: &Call) -> Option<Vec<usize>> {
             vec![material::length(sizes, scheme), BLOCK * wires, BLOCK * n]
         }
         Operation::Encode => vec![BLOCK * n],
+        Operation::OutputTokens => vec![BLOCK * m],
         Operation::Decode => vec![m],
         _ => vec![BLOCK * wires],
     })
@@ -310,12 +317,12 @@ pub fn program_input(random: &mut Random) -> Vec<u8> {
     match random.below(4) {
         0 => random.bytes(noise),
         1 => {
-            let mut bytes = any_small_circuit(random);
+            let mut bytes = any_call(random, Operation::Check).circuit;
             bytes.truncate(8);
             bytes.extend(random.bytes(noise));
             bytes
         }
-        2 => any_small_circuit(random),
+        2 => any_call(random, Operation::Check).circuit,
         _ => {
             let numbers: Vec<u8> = (0..random.between(1, 2))
                 .map(|_| random.one_of(Operation::Check.refusals()))

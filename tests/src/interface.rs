@@ -29,6 +29,7 @@ pub fn name(operation: Operation) -> &'static str {
         Operation::Encode => "encode",
         Operation::Evaluate => "evaluate",
         Operation::EvaluateGates => "evaluate_gates",
+        Operation::OutputTokens => "output_tokens",
         Operation::Decode => "decode",
         Operation::Pick => "pick",
     }
@@ -47,6 +48,7 @@ pub fn inputs(call: &Call) -> Vec<(&'static str, Vec<u8>)> {
         Operation::Encode => vec![circuit, values, zero, one],
         Operation::Evaluate | Operation::Decode => vec![circuit, tokens, material],
         Operation::EvaluateGates => vec![("gates", &gates), tokens, material],
+        Operation::OutputTokens => vec![circuit, ("wires", &call.tokens)],
         Operation::Pick => vec![zero, one],
     };
     let owned = |(name, list): (&'static str, &Vec<u8>)| (name, list.clone());

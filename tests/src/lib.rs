@@ -1,4 +1,4 @@
-//! A second implementation of document 01 ("01" below) with jobs 2, 4 and 7 of document 02
+//! A second implementation of document 01 ("01" below) with jobs 2, 4, 7 and 8 of document 02
 //! ("02"), written from the papers alone, and what the tests need around it: calls as values, a reader of
 //! stored cases and a generator of new ones.
 
@@ -20,6 +20,7 @@ pub mod large;
 pub mod lines;
 pub mod listed;
 pub mod material;
+pub mod named;
 pub mod one_operand;
 pub mod operations;
 pub mod program;

@@ -58,13 +58,21 @@ fn gate_list(call: &Call) -> Vec<u8> {
     sizes.into_iter().chain(gates).collect()
 }
 
+/// The one output buffer before the call.
+fn before(call: &Call) -> Vec<u8> {
+    let buffer = call.buffers().concat();
+    assert!(buffer.len() <= 1 << 17, "more room than the program has");
+    buffer
+}
+
 /// The arguments of a call, as fields.
 fn arguments(call: &Call) -> Vec<Vec<u8>> {
     let circuit = call.circuit.clone();
     let (zero, one) = (call.zero.clone(), call.one.clone());
     match call.operation {
         Operation::Check => vec![circuit],
-        Operation::Plain => vec![circuit, call.values.clone(), call.buffers().concat()],
+        Operation::Plain => vec![circuit, call.values.clone(), before(call)],
+        Operation::OutputTokens => vec![circuit, call.tokens.clone(), before(call)],
         Operation::Garble => {
             let setting = setting(&[call.scheme, call.fill], call);
             vec![circuit, call.seed.clone(), setting]

@@ -1,5 +1,5 @@
-//! The operations on lent bytes (01, Operations). Conditions are tried in rising number, and
-//! nothing is written before the last of them.
+//! The operations on lent bytes (01, Operations; 02, jobs 4 and 8). Conditions are tried in rising number, 25
+//! and 26 right after 7, and nothing is written before the last of them.
 
 use crate::block::{Block, Colour, BLOCK};
 use crate::circuit::{Circuit, Gate, Kind, Sizes, Truth};
@@ -106,8 +106,8 @@ fn garble_wires(
     garbler: &mut Garbler,
     scheme: Scheme,
 ) -> (Material, Vec<Block>) {
-    let Sizes { n, m, .. } = circuit.sizes();
-    let mut rows = Vec::with_capacity(circuit.sizes().p);
+    let Sizes { n, p, .. } = circuit.sizes();
+    let mut rows = Vec::with_capacity(p);
     let inputs = (1..=n).map(|wire| garbler.input(wire)).collect();
     let zeros = circuit.over_wires(inputs, |wire, gate, xa, xb| {
         let garbled = garbler.gate(wire, gate, xa, xb);
@@ -116,7 +116,7 @@ fn garble_wires(
         }
         garbled.zero
     });
-    let outputs = &zeros[zeros.len() - m..];
+    let outputs = circuit.of_outputs(&zeros);
     let colours = outputs.iter().map(|zero| zero.colour()).collect();
     let material = Material {
         scheme,
@@ -190,6 +190,16 @@ fn evaluate_circuit(
     });
     write_blocks(wires, &held);
     Ok(evaluator.calls())
+}
+
+/// The outputs' tokens, in the order of the outputs, of the tokens of all wires that evaluate wrote: what
+/// decode takes (02, job 8).
+pub fn output_tokens(circuit: &[u8], wires: &[u8], tokens: &mut [u8]) -> Result<(), Refused> {
+    let circuit = Circuit::read(circuit)?;
+    let held = read_tokens(wires, circuit.sizes().wires())?;
+    check_room(tokens, BLOCK * circuit.sizes().m)?;
+    write_blocks(tokens, &circuit.of_outputs(&held));
+    Ok(())
 }
 
 /// Decode: for each output the token's colour ⊕ the material's byte. Any tokens decode.

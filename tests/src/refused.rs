@@ -3,9 +3,9 @@
 /// A refusal is its number and a place.
 #[derive(Clone, Copy, Debug, PartialEq, Eq)]
 pub struct Refused {
-    /// The number of the condition that holds, 1 to 20.
+    /// The number of the condition that holds, 1 to 20, 25 or 26.
     pub number: u8,
-    /// The place that 01 names behind the condition.
+    /// The place that 01 or 02 names behind the condition.
     pub place: u64,
 }
 

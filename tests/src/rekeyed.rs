@@ -142,7 +142,7 @@ pub fn garblings() -> String {
 /// For each refusal of garble a call that it is due to; for 14 one with each scheme byte.
 fn refused_garblings(random: &mut Random) -> Vec<Call> {
     let mut calls = Vec::new();
-    for (index, &number) in Operation::Garble.refusals().iter().enumerate() {
+    for (index, &number) in Operation::Garble.refusals_of_01().iter().enumerate() {
         let run = RUNS[index % RUNS.len()];
         if number == 14 {
             let call = runs::garbling(random, &mixed_circuit(), run, REKEYED);

@@ -76,7 +76,7 @@ pub fn garblings() -> String {
 /// refusal.
 fn refused_garblings(random: &mut Random) -> Vec<Call> {
     let mut calls = Vec::new();
-    for (index, &number) in Operation::Garble.refusals().iter().enumerate() {
+    for (index, &number) in Operation::Garble.refusals_of_01().iter().enumerate() {
         let call = damage::damaged_call(random, Operation::Garble, &[number]);
         for run in [0, RUNS[1 + index % 7], u64::MAX] {
             let call = Call {

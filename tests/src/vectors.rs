@@ -11,6 +11,7 @@ use crate::generate::{self, damage};
 use crate::large::{self, Rule};
 use crate::lines;
 use crate::listed;
+use crate::named;
 use crate::one_operand;
 use crate::random::Random;
 use crate::rekeyed;
@@ -74,6 +75,16 @@ const REKEYED: [(&str, Operation); 3] = [
     ("decode-rekeyed", Operation::Decode),
 ];
 
+/// The files of new cases of circuits whose outputs are named.
+const NAMED: [(&str, Operation); 6] = [
+    ("check-named", Operation::Check),
+    ("plain-named", Operation::Plain),
+    ("encode-named", Operation::Encode),
+    ("evaluate-named", Operation::Evaluate),
+    ("output-tokens", Operation::OutputTokens),
+    ("decode-named", Operation::Decode),
+];
+
 /// All files made here.
 pub fn files() -> Vec<File> {
     let mut files = Vec::new();
@@ -101,6 +112,11 @@ pub fn files() -> Vec<File> {
     add("garble-rekeyed", rekeyed::garblings());
     add("garble-large-rekeyed", large_rekeyed());
     add("sigma", rekeyed::sigmas());
+    for (name, operation) in NAMED {
+        add(name, cases_of(&named::calls(operation)));
+    }
+    add("chain-named", named::chains());
+    add("garble-named", named::garblings());
     files
 }
 
@@ -133,7 +149,7 @@ fn generated_cases(operation: Operation) -> String {
     for _ in 0..20 {
         calls.push(generate::call(&mut random, operation));
     }
-    let numbers = operation.refusals();
+    let numbers = operation.refusals_of_01();
     for (index, &first) in numbers.iter().enumerate() {
         for &second in &numbers[index..] {
             let due = if first == second {

@@ -1,5 +1,5 @@
-//! Every stored case of a third reading of 01, of 01 with 02's job 2, with its jobs 2 and 4, and with its
-//! jobs 2, 4 and 7: answers and whole buffers.
+//! Every stored case of a third reading of 01, of 01 with 02's job 2, with its jobs 2 and 4, with its jobs 2,
+//! 4 and 7, and with its jobs 2, 4, 7 and 8: answers and whole buffers.
 
 use std::collections::BTreeMap;
 
@@ -21,7 +21,7 @@ const BASE: Counts = [
     ("program", 31),
 ];
 
-/// Of 01 with jobs of 02: each of these files has as many.
+/// Of 01 with jobs of 02 before job 8: each of these files has as many.
 const AMENDED: Counts = [
     ("check", 38),
     ("decode", 38),
@@ -32,6 +32,19 @@ const AMENDED: Counts = [
     ("pick", 19),
     ("plain", 37),
     ("program", 18),
+];
+
+/// Of 01 with 02's jobs 2, 4, 7 and 8.
+const NAMED: Counts = [
+    ("check", 50),
+    ("decode", 50),
+    ("encode", 50),
+    ("evaluate", 75),
+    ("evaluate_list", 25),
+    ("garble", 50),
+    ("pick", 25),
+    ("plain", 50),
+    ("program", 25),
 ];
 
 fn compare(case: &Case) {
@@ -79,4 +92,9 @@ fn all_cases_with_runs_agree() {
 #[test]
 fn all_cases_with_scheme_4_agree() {
     compare_all(include_str!("../data/job07.jsonl"), AMENDED);
+}
+
+#[test]
+fn all_cases_with_named_outputs_agree() {
+    compare_all(include_str!("../data/job08.jsonl"), NAMED);
 }

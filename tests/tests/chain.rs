@@ -1,12 +1,14 @@
-//! The chain garble, encode, evaluate, decode of demand 3, on one circuit (01, Operations; 02, jobs 4 and 7).
+//! The chain garble, encode, evaluate, the outputs' tokens, decode of demand 3, on one circuit (01, Operations;
+//! 02, jobs 4, 7 and 8).
 
 use std::collections::BTreeSet;
 
 use second::block::{Block, Colour, BLOCK};
 use second::circuit::{Circuit, Sizes};
 use second::generate;
+use second::generate::outputs::named;
 use second::large::coloured_seed;
-use second::operations::{decode, encode, evaluate, evaluate_gates, garble, plain};
+use second::operations::{decode, encode, evaluate, evaluate_gates, garble, output_tokens, plain};
 use second::random::Random;
 use second::scheme::Scheme;
 use second::token::Seed;
@@ -16,7 +18,7 @@ const SCHEMES: [Scheme; 4] = Scheme::ALL;
 /// The codes that are not refused.
 const CODES: [u8; 14] = [1, 2, 3, 4, 5, 6, 7, 8, 9, 10, 11, 12, 13, 14];
 
-/// What the four calls of the chain leave.
+/// What the calls of the chain leave.
 struct Chain {
     zeros: Vec<u8>,
     held: Vec<u8>,
@@ -37,6 +39,16 @@ fn rows_and_calls(scheme: Scheme) -> (usize, usize) {
 struct Source {
     seed: [u8; BLOCK],
     run: u64,
+}
+
+/// The wires of the outputs, from the circuit's bytes: those named, or the last m.
+fn outputs(bytes: &[u8]) -> Vec<usize> {
+    let number = |at: usize| 256 * usize::from(bytes[at]) + usize::from(bytes[at + 1]);
+    let (n, m, q) = (number(2), number(4), number(6));
+    match bytes[1] {
+        0x49 => (0..m).map(|k| number(8 + 7 * q + 4 * k + 2)).collect(),
+        _ => (n + q - m + 1..=n + q).collect(),
+    }
 }
 
 /// Runs the chain in buffers of exactly the bytes named, and checks what the calls return.
@@ -68,9 +80,12 @@ fn run(bytes: &[u8], scheme: Scheme, source: Source, values: &[u8]) -> Chain {
     let calls = (calls * p) as u64;
     let evaluated = evaluate(bytes, &tokens, &material, &mut held);
     assert_eq!(evaluated, Ok(calls));
-    let outputs = &held[held.len() - BLOCK * m..];
-    assert_eq!(decode(bytes, outputs, &material, &mut decoded), Ok(()));
-    check_list_form(&circuit, &tokens, &material, calls, &held);
+    let mut chosen = vec![0; BLOCK * m];
+    assert_eq!(output_tokens(bytes, &held, &mut chosen), Ok(()));
+    assert_eq!(decode(bytes, &chosen, &material, &mut decoded), Ok(()));
+    if m <= sizes.q {
+        check_list_form(&circuit, &tokens, &material, calls, &held);
+    }
     Chain {
         zeros,
         held,
@@ -78,7 +93,8 @@ fn run(bytes: &[u8], scheme: Scheme, source: Source, values: &[u8]) -> Chain {
     }
 }
 
-/// The list form gets the answer of the bytes.
+/// The list form gets the answer of the bytes, which do not depend on which wires are outputs, but for their
+/// number: it has at most as many as gates.
 fn check_list_form(circuit: &Circuit, tokens: &[u8], material: &[u8], calls: u64, held: &[u8]) {
     let Sizes { n, m, .. } = circuit.sizes();
     let gates: Vec<_> = circuit.gates().map(|(_, gate)| gate).collect();
@@ -91,7 +107,7 @@ fn check_list_form(circuit: &Circuit, tokens: &[u8], material: &[u8], calls: u64
 
 /// Demand 3: the distance on every wire, which is R of the run, and the decoded bits.
 fn check_chain(bytes: &[u8], scheme: Scheme, source: Source, values: &[u8], name: &str) {
-    let Sizes { m, n, q, .. } = Circuit::read(bytes).expect("an accepted circuit").sizes();
+    let Sizes { n, q, .. } = Circuit::read(bytes).expect("an accepted circuit").sizes();
     let mut carried = vec![0; n + q];
     assert_eq!(plain(bytes, values, &mut carried), Ok(()));
     let chain = run(bytes, scheme, source, values);
@@ -104,7 +120,11 @@ fn check_chain(bytes: &[u8], scheme: Scheme, source: Source, values: &[u8], name
         let wire = index + 1;
         assert_eq!(distance, expected, "{name}, {scheme:?}, wire {wire}");
     }
-    assert_eq!(chain.decoded, carried[n + q - m..], "{name}, {scheme:?}");
+    let due: Vec<u8> = outputs(bytes)
+        .iter()
+        .map(|wire| carried[wire - 1])
+        .collect();
+    assert_eq!(chain.decoded, due, "{name}, {scheme:?}");
 }
 
 /// Any seed and any run.
@@ -149,17 +169,43 @@ fn random_circuits() {
     assert_eq!(codes.into_iter().collect::<Vec<u8>>(), CODES);
 }
 
+/// The same with named outputs of every kind.
+#[test]
+fn random_circuits_with_named_outputs() {
+    let mut random = Random::new(15);
+    for round in 0..400 {
+        let bytes = generate::any_small_circuit(&mut random);
+        let bytes = named(&mut random, &bytes);
+        let n = Circuit::read(&bytes)
+            .expect("an accepted circuit")
+            .sizes()
+            .n;
+        let values = generate::values(&mut random, n);
+        let source = source(&mut random);
+        let name = format!(
+            "round {round}, run {}, outputs {:?}",
+            source.run,
+            outputs(&bytes)
+        );
+        for scheme in SCHEMES {
+            check_chain(&bytes, scheme, source, &values, &name);
+        }
+    }
+}
+
 #[test]
 fn largest_circuits() {
     let mut random = Random::new(13);
     for (n, q, charged) in [(4096, 61_439, 50), (2, 65_533, 100), (2, 65_533, 0)] {
         let bytes = generate::circuit(&mut random, n, q, charged);
         let bytes = generate::with_one_operand(&mut random, bytes);
+        let by_name = named(&mut random, &bytes);
         let values = generate::values(&mut random, usize::from(n));
         let source = source(&mut random);
         let name = format!("n {n}, q {q}, charged {charged}, run {}", source.run);
         for scheme in SCHEMES {
             check_chain(&bytes, scheme, source, &values, &name);
+            check_chain(&by_name, scheme, source, &values, &name);
         }
     }
 }

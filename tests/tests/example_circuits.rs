@@ -1,5 +1,5 @@
-//! The circuits of ../examples: what the program prints of them, and what the two comparators compute,
-//! by the second implementation and by the archive.
+//! The circuits of ../examples: what the program prints of them, what the two comparators compute, and which
+//! bits named outputs give, by the second implementation and by the archive.
 
 #[path = "../src/archive.rs"]
 mod archive;
@@ -57,6 +57,7 @@ fn what_the_program_prints_of_them() {
     let printed = |name| program::output(&example(name));
     assert_eq!(printed("and"), "2 1 1 1\n80 64 48\n");
     assert_eq!(printed("refused-code"), "refused 7 3\n");
+    assert_eq!(printed("named-outputs"), "2 3 1 1\n82 66 50\n");
     let at_most = printed("price-at-most-ceiling-8");
     assert_eq!(at_most, "16 1 29 8\n556 428 300\n");
     let over = printed("price-over-ceiling-8");
@@ -115,6 +116,52 @@ fn garbled_by_each_scheme() {
             let bit = garbled_bit(&circuit, wires, &seed, scheme, values(price, ceiling));
             let due = u8::from(holds(&price, &ceiling));
             assert_eq!(bit, due, "{name}, scheme {scheme}: {price}, {ceiling}");
+        }
+    }
+}
+
+/// The named outputs with a fault: a record's mark, a record's wire, an output too many, a byte less.
+#[test]
+fn named_outputs_with_a_fault() {
+    let changed = |at: usize, byte: u8| {
+        let mut bytes = example("named-outputs");
+        bytes[at] = byte;
+        bytes
+    };
+    let short = example("named-outputs")[..26].to_vec();
+    for (bytes, number, place) in [
+        (changed(20, 0x47), 25, 2),
+        (changed(26, 4), 26, 3),
+        (changed(5, 4), 3, 2),
+        (short, 4, 26),
+    ] {
+        let printed = program::output(&bytes);
+        assert_eq!(printed, format!("refused {number} {place}\n"));
+        let check = call(Operation::Check, &bytes, &[]);
+        let answer = archive::run(&check, &[], 0).expect("nothing written");
+        assert_eq!((answer.number, answer.words), (number, [place, 0, 0, 0]));
+    }
+}
+
+/// By the archive, by each scheme: the AND, the first input's own bit, and the AND again.
+#[test]
+fn what_named_outputs_decode_to() {
+    let circuit = example("named-outputs");
+    let mut random = Random::new(52);
+    for (scheme, length) in (1..).zip([82, 66, 50, 50]) {
+        for (u, v) in [(0, 0), (0, 1), (1, 0), (1, 1)] {
+            let mut garble = call(Operation::Garble, &circuit, &[length, 48, 32]);
+            (garble.seed, garble.scheme) = (generate::seed(&mut random), scheme);
+            let [material, zeros, ones] = by_archive(&garble).try_into().expect("three buffers");
+            let mut encode = call(Operation::Encode, &circuit, &[32]);
+            (encode.values, encode.zero, encode.one) = (vec![u, v], zeros[..32].to_vec(), ones);
+            let mut evaluate = call(Operation::Evaluate, &circuit, &[48]);
+            (evaluate.tokens, evaluate.material) = (by_archive(&encode).concat(), material.clone());
+            let mut outputs = call(Operation::OutputTokens, &circuit, &[48]);
+            outputs.tokens = by_archive(&evaluate).concat();
+            let mut decode = call(Operation::Decode, &circuit, &[3]);
+            (decode.tokens, decode.material) = (by_archive(&outputs).concat(), material);
+            assert_eq!(by_archive(&decode), [[u & v, u, u & v]], "scheme {scheme}");
         }
     }
 }

@@ -7,7 +7,9 @@ use std::thread;
 use std::time::{Duration, Instant};
 
 use second::cases::{self, Asked};
+use second::circuit::Circuit;
 use second::generate;
+use second::generate::outputs::with_outputs;
 use second::program::{self, LIMIT};
 use second::random::Random;
 
@@ -84,11 +86,13 @@ fn stored_cases() {
     let job02 = include_str!("../data/job02.jsonl");
     let job04 = include_str!("../data/job04.jsonl");
     let job07 = include_str!("../data/job07.jsonl");
+    let job08 = include_str!("../data/job08.jsonl");
     for (name, text, due) in [
         ("base", base, 31),
         ("job02", job02, 18),
         ("job04", job04, 18),
         ("job07", job07, 18),
+        ("job08", job08, 25),
     ] {
         let mut count = 0;
         for case in &cases::read(text).expect("readable cases") {
@@ -114,6 +118,28 @@ fn examples_of_the_table() {
     compare(&[], "refused 1 0\n", "empty input");
 }
 
+/// 02, job 8: the AND gate with its outputs by name, sound and with each fault.
+#[test]
+fn named_outputs() {
+    let named = include_bytes!("../../examples/named-outputs.circuit");
+    compare(named, "2 3 1 1\n82 66 50\n", "named outputs");
+    for (at, byte, due) in [
+        (1, 0x4A, "refused 2 0\n"),
+        (1, 0x48, "refused 3 2\n"),
+        (5, 4, "refused 3 2\n"),
+        (5, 2, "refused 4 27\n"),
+        (14, 0, "refused 7 3\n"),
+        (20, 0x47, "refused 25 2\n"),
+        (22, 0, "refused 26 2\n"),
+        (26, 4, "refused 26 3\n"),
+    ] {
+        let mut bytes = *named;
+        bytes[at] = byte;
+        compare(&bytes, due, &format!("byte {at} is {byte}"));
+    }
+    compare(&named[..26], "refused 4 26\n", "a byte less");
+}
+
 #[test]
 fn around_the_longest_input() {
     compare(&[0; LIMIT], "refused 2 0\n", "65,536 bytes");
@@ -134,6 +160,21 @@ fn around_the_longest_input() {
         "too long\n",
         "an accepted circuit that is too long",
     );
+}
+
+/// With two named outputs a circuit may have exactly as many bytes as the program takes; with three it is
+/// too long.
+#[test]
+fn around_the_longest_input_with_named_outputs() {
+    let mut random = Random::new(33);
+    let bytes = generate::circuit(&mut random, 4, 9360, 50);
+    let circuit = Circuit::read(&bytes).expect("an accepted circuit");
+    let longest = with_outputs(&circuit, &[9364, 1]);
+    assert_eq!(longest.len(), LIMIT);
+    assert!(program::output(&longest).starts_with("4 2 9360 "));
+    compare_with_module(&longest, "named outputs, 65,536 bytes");
+    let longer = with_outputs(&circuit, &[9364, 1, 9364]);
+    compare(&longer, "too long\n", "named outputs, 65,540 bytes");
 }
 
 #[test]

@@ -11,14 +11,19 @@ use second::generate::any_call;
 use second::generate::damage::any_damaged_call;
 use second::random::Random;
 
-/// The numbers that may be due where both conditions hold: the lower, or, in the one search for
-/// 5 to 7, that of the first gate with a fault.
-fn may_be_due(first: u8, second: u8) -> Vec<u8> {
-    let one_search = 5..=7;
-    if one_search.contains(&first) && one_search.contains(&second) {
-        return vec![first, second];
+/// The searches that look for several numbers at once.
+const SEARCHES: [&[u8]; 2] = [&[5, 6, 7], &[25, 26]];
+
+/// The numbers that may be due where both conditions hold: the one that is tried first, or, in one search,
+/// that of the first gate or the first output with a fault.
+fn may_be_due(operation: Operation, first: u8, second: u8) -> Vec<u8> {
+    for search in SEARCHES {
+        if search.contains(&first) && search.contains(&second) {
+            return vec![first, second];
+        }
     }
-    vec![first.min(second)]
+    let [one, other] = [first, second].map(|number| operation.tried_before(number));
+    vec![if one < other { first } else { second }]
 }
 
 /// Runs the call. Its answer must be the one due. If that is a refusal, the buffers must be as they
@@ -90,7 +95,7 @@ fn each_condition_alone() {
             }
         }
     }
-    assert_eq!(met, (1..=20).collect());
+    assert_eq!(met, (1..=20).chain([25, 26]).collect());
 }
 
 #[test]
@@ -105,7 +110,7 @@ fn two_conditions_at_once() {
                     // Of two damages of one number, the second may undo the first.
                     if first != second {
                         let number = number.expect("a damaged call");
-                        let due = may_be_due(first, second);
+                        let due = may_be_due(operation, first, second);
                         assert!(due.contains(&number), "{operation:?}: {number}");
                     }
                 }

@@ -2,8 +2,7 @@
 //! are worked out here once more, from AES alone: half-gates over any hash, once with that of scheme 3 and
 //! once with that of scheme 4.
 
-#[path = "../src/archive.rs"]
-mod archive;
+mod sides;
 
 use std::collections::BTreeSet;
 
@@ -14,19 +13,10 @@ use second::circuit::{to_bytes, Gate};
 use second::evaluator::value_lists;
 use second::generate::{self, room};
 use second::hex;
-use second::interface::{self, Answer};
+use second::interface::Answer;
 use second::large::coloured_seed;
 use second::random::Random;
-
-/// Who answers a call.
-type Side = fn(&Call) -> Answer;
-
-const SIDES: [(&str, Side); 2] = [("second", interface::expected), ("archive", by_archive)];
-
-fn by_archive(call: &Call) -> Answer {
-    let answer = archive::run(call, &interface::buffers(call), 0);
-    answer.expect("nothing written beside the buffers")
-}
+use sides::{Side, SIDES};
 
 /// Charged codes, each with the pair u, v that has a value of its own, and that value.
 const CHARGED: [(u8, bool, bool, bool); 8] = [

@@ -1,8 +1,7 @@
 //! Run numbers, by the words of 02, job 4, on the second implementation and on the archive: which blocks
 //! are enciphered under the seed, whose R is the distance, and that no run is refused.
 
-#[path = "../src/archive.rs"]
-mod archive;
+mod sides;
 
 use std::collections::BTreeSet;
 
@@ -11,25 +10,16 @@ use second::block::{Block, BLOCK};
 use second::call::{Call, Operation};
 use second::circuit::{to_bytes, Gate};
 use second::evaluator::value_lists;
-use second::generate::damage::damaged_call;
+use second::generate::damage::any_damaged_call;
 use second::generate::{room, RUNS};
-use second::interface::{self, Answer};
+use second::interface;
 use second::random::Random;
-
-/// Who answers a call.
-type Side = fn(&Call) -> Answer;
-
-const SIDES: [(&str, Side); 2] = [("second", interface::expected), ("archive", by_archive)];
+use sides::{Side, SIDES};
 
 /// Both sides, with each scheme.
 fn sides_and_schemes() -> impl Iterator<Item = (&'static str, Side, u8)> {
     let with_schemes = |(name, side)| [1, 2, 3, 4].map(|scheme| (name, side, scheme));
     SIDES.into_iter().flat_map(with_schemes)
-}
-
-fn by_archive(call: &Call) -> Answer {
-    let answer = archive::run(call, &interface::buffers(call), 0);
-    answer.expect("nothing written beside the buffers")
 }
 
 const SEED: [u8; BLOCK] = *b"a seed: 16 bytes";
@@ -208,7 +198,8 @@ fn check_chain(side: Side, garbling: &Garbling, values: &[u8], name: &str) {
 fn no_run_changes_a_refusal() {
     let mut random = Random::new(61);
     for &number in Operation::Garble.refusals() {
-        let call = damaged_call(&mut random, Operation::Garble, &[number]);
+        let mut call = any_damaged_call(&mut random, Operation::Garble, &[number]);
+        call.run = 0;
         for (name, side) in SIDES {
             let due = side(&call);
             assert_eq!(due.number, number, "{name}");

@@ -25,6 +25,7 @@ fn main() {
     run_file(false, b"garble-one-operand");
     run_file(false, b"garble-runs");
     run_file(false, b"garble-rekeyed");
+    run_file(false, b"garble-named");
     run_file(true, b"garble-large");
     run_file(true, b"garble-large-rekeyed");
 }

@@ -20,6 +20,7 @@ use cases::answer::refused;
 use cases::room;
 use check::same;
 use model::Checked;
+use model::Ran;
 use model::Wire;
 
 // A, 2A, 4A.
@@ -44,31 +45,47 @@ fn checking(circuit: &[u8], answer: &[u8]) -> bool {
     }
 }
 
-// Plain on a buffer that holds `before`: the answer (00 or the refusal), and the buffer after.
-fn plain_leaves(
+// An operation on a circuit and a list: 5 plain, on the values of the inputs; 24 the outputs' tokens, of those of all wires.
+fn listed(group: u8, circuit: &[u8], list: &[u8], out: &mut [u8]) -> Ran {
+    if group == 5 {
+        return circuit::plain(circuit, list, out);
+    }
+    evaluate::output_tokens(circuit, list, out)
+}
+
+// The operation on a buffer that holds `before`: the answer (00 or the refusal), and the buffer after.
+fn listed_leaves(
+    group: u8,
     circuit: &[u8],
-    values: &[u8],
+    list: &[u8],
     before: &[u8],
     answer: &[u8],
     after: &[u8],
-    wires: &mut [u8],
+    out: &mut [u8],
 ) -> bool {
-    if wires.len() < before.len() {
+    if out.len() < before.len() {
         return false;
     }
-    buffer::copy_front(before, wires);
-    let r = circuit::plain(circuit, values, wires);
-    ran(r, answer) & same(wires, after)
+    buffer::copy_front(before, out);
+    let r = listed(group, circuit, list, out);
+    ran(r, answer) & same(out, after)
 }
 
-// Circuit, values, the buffer before, the answer, and the buffer after.
-fn plain_run(circuit: &[u8], values: &[u8], before: &[u8], answer: &[u8], after: &[u8]) -> bool {
+// Circuit, list, the buffer before, the answer, and the buffer after.
+fn listed_run(
+    group: u8,
+    circuit: &[u8],
+    list: &[u8],
+    before: &[u8],
+    answer: &[u8],
+    after: &[u8],
+) -> bool {
     let len = before.len();
     if 131072 < len {
         return false;
     }
-    let mut wires = room::more(0);
-    plain_leaves(circuit, values, before, answer, after, &mut wires[..len])
+    let mut out = room::more(0);
+    listed_leaves(group, circuit, list, before, answer, after, &mut out[..len])
 }
 
 // Zero list, one list, wire and bit (2 bytes and 1), the answer, and the part: the token, or no byte.
@@ -91,7 +108,7 @@ pub fn pick_run<'a>(
 // By group: 1 encryption, 2 key expansion, 3 doubling, 4 check, 5 plain, 7 encode, 8 pick, 10 evaluate,
 // 11 decode, 12 the chain, 14 encryption by tables, 15 and 16 as the first and the second block of a pair, 17 key expansion word by
 // word, 18 the schedule of π's key, 19 and 20 encryption as the first and the second block of a pair whose key is expanded beside them,
-// 21 and 22 the same with a key each, 23 σ.
+// 21 and 22 the same with a key each, 23 σ, 24 the outputs' tokens.
 pub fn agrees<'a>(
     group: u8,
     a: &'a [u8],
@@ -107,7 +124,7 @@ pub fn agrees<'a>(
         2 => expansion(a, b),
         3 => doubling(a, b, c),
         4 => checking(a, b),
-        5 => plain_run(a, b, c, d, e),
+        5 => listed_run(group, a, b, c, d, e),
         7 => single_run(group, a, b, c, d, e, f, g),
         8 => pick_run(a, b, c, d, e),
         12 => chain_run(a, b, c, d, e, f, g),
@@ -121,6 +138,7 @@ pub fn agrees<'a>(
         21 => each_first(a, b, c),
         22 => each_second(a, b, c),
         23 => sigma(a, b),
+        24 => listed_run(group, a, b, c, d, e),
         _ => single_run(group, a, b, c, d, d, e, f),
     }
 }

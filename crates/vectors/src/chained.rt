@@ -1,5 +1,5 @@
-// Whether a case agrees with the chain of garble, encode, evaluate and decode. Before the call every byte of the six lent
-// buffers is the case's fill; after it the last two, of the wires' tokens and the outputs' bits, must hold the case's bytes.
+// Whether a case agrees with the chain of garble, encode, evaluate and decode. Before the call every byte of the seven lent
+// buffers is the case's fill; after it those of the wires' tokens and of the outputs' bits must hold the case's bytes.
 ghost use Prim.Native.Nat.{_≤_};
 ghost use lib.ListN.{length};
 use cases::answer::done;
@@ -20,10 +20,11 @@ fn chained(c: Chained, answer: &[u8]) -> bool {
         Chained::Encode(f) => refused_by(2, f, answer),
         Chained::Evaluate(f) => refused_by(3, f, answer),
         Chained::Decode(f) => refused_by(4, f, answer),
+        Chained::Outputs(f) => refused_by(5, f, answer),
     }
 }
 
-// The chain on six buffers: the answer, and what the last two hold after it.
+// The chain on seven buffers: the answer, and what those of the wires' tokens and of the bits hold after it.
 fn chain_leaves(
     circuit: &[u8],
     seed: &[u8],
@@ -37,6 +38,7 @@ fn chain_leaves(
     ones: &mut [u8],
     tokens: &mut [u8],
     wires: &mut [u8],
+    outputs: &mut [u8],
     bits: &mut [u8],
 ) -> bool {
     let c = chain::chain(
@@ -49,6 +51,7 @@ fn chain_leaves(
         ones,
         tokens,
         wires,
+        outputs,
         bits,
     );
     let same_wires = same(wires, after_wires);
@@ -56,7 +59,24 @@ fn chain_leaves(
     chained(c, answer) & same_wires & same_bits
 }
 
-// The chain on its first three buffers, and on the other three, which are made here.
+// Whether a setting has nothing after its first 26 bytes, or a run number, or a run number and the length of a seventh buffer.
+fn chain_fits(setting: &[u8]) -> bool
+    requires { ⌜ 26 ≤ length (now setting) ⌝ }
+{
+    fits(setting, 26) | (setting.len() == 38)
+}
+
+// The length of the buffer of the outputs' tokens, at the end of a setting that has one; else there is room for all of them.
+fn outputs_room(setting: &[u8]) -> usize
+    ensures { λ r. ⌜ r ≤ 65536 ⌝ }
+{
+    if setting.len() < 38 {
+        return 65536;
+    }
+    room_at(setting, 34, 65536)
+}
+
+// The chain on its first three buffers, and on the other four, which are made here.
 fn chain_made(
     circuit: &[u8],
     seed: &[u8],
@@ -74,10 +94,12 @@ fn chain_made(
     let before = setting[1];
     let mut tokens = room::some(before);
     let mut wires = room::some(before);
+    let mut outputs = room::some(before);
     let mut bits = room::some(before);
     let d = room_at(setting, 14, 65536);
     let e = room_at(setting, 18, 65536);
     let f = room_at(setting, 22, 65536);
+    let g = outputs_room(setting);
     chain_leaves(
         circuit,
         seed,
@@ -91,12 +113,13 @@ fn chain_made(
         ones,
         &mut tokens[..d],
         &mut wires[..e],
+        &mut outputs[..g],
         &mut bits[..f],
     )
 }
 
-// Circuit, seed, values, setting (scheme, fill, the lengths of six buffers: 1 byte, 1 and 4 each; the run number: none, or 8), the
-// answer, and the last two buffers.
+// Circuit, seed, values, setting (scheme, fill, the lengths of six buffers: 1 byte, 1 and 4 each; the run number: none, or 8; after it
+// the length of the seventh, that of the outputs' tokens: none, or 4), the answer, and the buffers of the wires' tokens and of the bits.
 pub fn chain_run(
     circuit: &[u8],
     seed: &[u8],
@@ -109,7 +132,7 @@ pub fn chain_run(
     if setting.len() < 26 {
         return false;
     }
-    if !fits(setting, 26) {
+    if !chain_fits(setting) {
         return false;
     }
     let before = setting[1];

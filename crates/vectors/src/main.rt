@@ -101,6 +101,17 @@ fn run_rekeyed() {
     run_file(12, b"chain-rekeyed");
 }
 
+// Cases of the second implementation with outputs by name (02, job 8).
+fn run_named() {
+    run_file(4, b"check-named");
+    run_file(5, b"plain-named");
+    run_file(7, b"encode-named");
+    run_file(10, b"evaluate-named");
+    run_file(24, b"output-tokens");
+    run_file(11, b"decode-named");
+    run_file(12, b"chain-named");
+}
+
 fn main() {
     run_outside();
     run_stored();
@@ -108,4 +119,5 @@ fn main() {
     run_one_operand();
     run_runs();
     run_rekeyed();
+    run_named();
 }

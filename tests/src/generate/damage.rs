@@ -1,23 +1,44 @@
-//! Calls damaged so that a chosen condition holds (01, Turned down, by number).
+//! Calls damaged so that a chosen condition holds (01, Turned down, by number; 02, job 8).
 
-use super::{add_run, any_scheme, call, room, use_one_operand, CHARGED, FREE, ONE_OPERAND};
+use super::outputs::any_outputs;
+use super::{
+    add_run, any_scheme, call, call_on, room, small_circuit, use_one_operand, CHARGED, FREE,
+    ONE_OPERAND,
+};
 use crate::block::BLOCK;
 use crate::call::{Call, Operation};
-use crate::circuit::Gate;
+use crate::circuit::{Gate, Mark};
 use crate::random::Random;
 
-/// A call of the operation with every condition of `numbers` met at once. They are brought about in
-/// falling number, so that a later one does not undo the condition that must be given; of a number
-/// named twice, the second damage may undo the first. Sound gates have 01's codes, and a sound scheme is
-/// one of 01's.
+/// A call of the operation with every condition of `numbers` met at once. They are brought about from the
+/// last that is tried to the first, so that a later one does not undo the condition that must be given; of
+/// a number named twice, the second damage may undo the first. Sound circuits have the mark 43 48, sound
+/// gates 01's codes, and a sound scheme is one of 01's.
 pub fn damaged_call(random: &mut Random, operation: Operation, numbers: &[u8]) -> Call {
+    let is_of_01 = numbers.iter().all(|&number| number <= 20);
+    assert!(is_of_01, "no output record to spoil with the mark 43 48");
     damaged_from(random, operation, numbers, call)
 }
 
-/// The same with sound gates of all codes, by any scheme, and of garble in any run.
+/// The same with sound circuits of either mark and of all codes, by any scheme, and of garble in any run.
 pub fn any_damaged_call(random: &mut Random, operation: Operation, numbers: &[u8]) -> Call {
+    damaged_call_on(random, operation, numbers, |random| {
+        let bytes = small_circuit(random);
+        any_outputs(random, operation, bytes)
+    })
+}
+
+/// The same on circuits that `circuit` makes of 01's codes: half of the free ones become such that use one
+/// operand.
+pub fn damaged_call_on(
+    random: &mut Random,
+    operation: Operation,
+    numbers: &[u8],
+    circuit: impl Fn(&mut Random) -> Vec<u8>,
+) -> Call {
     let mut damaged = damaged_from(random, operation, numbers, |random, operation| {
-        let mut call = call(random, operation);
+        let bytes = circuit(random);
+        let mut call = call_on(random, operation, &bytes);
         any_scheme(random, &mut call);
         call
     });
@@ -37,24 +58,43 @@ fn damaged_from(
         let has = operation.refusals().contains(number);
         assert!(has, "{operation:?} has no argument for refusal {number}");
     }
-    let mut falling = numbers.to_vec();
-    falling.sort_unstable_by(|a, b| b.cmp(a));
+    let mut from_last = numbers.to_vec();
+    from_last.sort_by_key(|&number| operation.tried_before(number));
+    from_last.reverse();
     loop {
         let mut call = sound(random, operation);
         let met = |&number: &u8| damage(random, &mut call, number);
-        if falling.iter().all(met) {
+        if from_last.iter().all(met) {
             return refused_still(call, numbers);
         }
     }
 }
 
 /// A call damaged by what 01 refuses, for the conditions of `numbers`. Where its refusal was a code that
-/// is free now (02, job 2), 16 is added to that code, and where it was scheme 4 (02, job 7), 5 takes its
-/// place: then it is refused as it was.
+/// is free now (02, job 2), 16 is added to that code; where it was scheme 4 (02, job 7), 5 takes its
+/// place; and where it was the mark 43 49 (02, job 8), 43 4A does: then it is refused as it was.
 pub fn refused_still(call: Call, numbers: &[u8]) -> Call {
+    let call = match numbers.contains(&2) {
+        true => mark_refused_still(call),
+        false => call,
+    };
     let call = code_refused_still(call);
     match numbers.contains(&14) {
         true => scheme_refused_still(call),
+        false => call,
+    }
+}
+
+/// The same for the mark. A call that is refused for what comes before it stays as it was drawn.
+fn mark_refused_still(call: Call) -> Call {
+    if Mark::of(&call.circuit).is_none() {
+        return call;
+    }
+    let mut raised = call.clone();
+    raised.circuit[1] = 0x4A;
+    let refused = raised.read_circuit().err();
+    match refused.is_some_and(|refused| refused.number == 2) {
+        true => raised,
         false => call,
     }
 }
@@ -130,6 +170,8 @@ pub fn damage(random: &mut Random, call: &mut Call, number: u8) -> bool {
         18 => spoil_last_record(random, call),
         19 => shorten_buffer(random, call),
         20 => spoil_wire(random, call),
+        25 => spoil_output_mark(random, call),
+        26 => spoil_output_wire(random, call),
         _ => false,
     }
 }
@@ -161,13 +203,13 @@ fn relength(random: &mut Random, bytes: &mut Vec<u8>, least: usize) -> bool {
     true
 }
 
-/// Sizes that break a limit, from sizes within them.
-fn bad_sizes(random: &mut Random, n: u16, m: u16, q: usize) -> (u16, u16, usize) {
+/// Sizes that break a limit, from sizes within them, where m is at most `most`.
+fn bad_sizes(random: &mut Random, n: u16, m: u16, q: usize, most: usize) -> (u16, u16, usize) {
     match random.below(6) {
         0 => (random.below(2) as u16, m, q),
         1 => (random.between(4097, 65_535) as u16, m, q),
         2 => (n, 0, q),
-        3 => (n, random.between((q + 1).min(65_535), 65_535) as u16, q),
+        3 => (n, random.between((most + 1).min(65_535), 65_535) as u16, q),
         4 => (n, m, 0),
         _ => (n, m, random.between(65_536 - usize::from(n.max(1)), 65_535)),
     }
@@ -182,7 +224,7 @@ fn spoil_list_sizes(random: &mut Random, call: &mut Call) -> bool {
         random.between(65_536, 65_560)
     } else {
         let q = call.gates.len();
-        let bad = bad_sizes(random, call.n, call.m, q);
+        let bad = bad_sizes(random, call.n, call.m, q, q);
         (call.n, call.m) = (bad.0, bad.1);
         bad.2
     };
@@ -195,20 +237,62 @@ fn spoil_sizes(random: &mut Random, call: &mut Call) -> bool {
     if call.operation == Operation::EvaluateGates {
         return spoil_list_sizes(random, call);
     }
+    let is_named = Mark::of(&call.circuit) == Some(Mark::Named);
     let Some(&mut [n0, n1, m0, m1, q0, q1]) = call.circuit.get_mut(2..8) else {
         return false;
     };
     let [n, m, q] = [[n0, n1], [m0, m1], [q0, q1]].map(u16::from_be_bytes);
-    let (n, m, q) = bad_sizes(random, n, m, usize::from(q));
+    let (inputs, q) = (usize::from(n), usize::from(q));
+    let most = if is_named { inputs + q } else { q };
+    let (n, m, q) = bad_sizes(random, n, m, q, most);
     let sizes = [n, m, q as u16].map(u16::to_be_bytes);
     call.circuit[2..8].copy_from_slice(&sizes.concat());
     true
 }
 
+/// The bytes after the header of a circuit whose outputs are named: the gate records, by the header's q, and
+/// the output records. All are gate records where the outputs are not named.
+fn records(call: &mut Call) -> (&mut [u8], &mut [u8]) {
+    let is_named = Mark::of(&call.circuit) == Some(Mark::Named);
+    let Some((header, records)) = call.circuit.split_at_mut_checked(8) else {
+        return (&mut [], &mut []);
+    };
+    let gates = 7 * usize::from(u16::from_be_bytes([header[6], header[7]]));
+    let end = if is_named { gates } else { records.len() };
+    records.split_at_mut(end.min(records.len()))
+}
+
 /// The whole gate records of the circuit's bytes.
 fn gate_records(call: &mut Call) -> Vec<&mut [u8]> {
-    let records = call.circuit.get_mut(8..).unwrap_or_default();
-    records.chunks_exact_mut(7).collect()
+    records(call).0.chunks_exact_mut(7).collect()
+}
+
+/// One of the whole output records of the circuit's bytes.
+fn output_record<'a>(random: &mut Random, call: &'a mut Call) -> Option<&'a mut [u8]> {
+    let records = records(call).1.chunks_exact_mut(4);
+    let mut records: Vec<&mut [u8]> = records.collect();
+    let index = random.below(records.len());
+    (index < records.len()).then(|| records.swap_remove(index))
+}
+
+fn spoil_output_mark(random: &mut Random, call: &mut Call) -> bool {
+    let record = output_record(random, call);
+    spoil(random, record.map(|record| &mut record[..2]))
+}
+
+/// An output's wire that is 0 or above n+q.
+fn spoil_output_wire(random: &mut Random, call: &mut Call) -> bool {
+    let Some(&[n0, n1, _, _, q0, q1]) = call.circuit.get(2..8) else {
+        return false;
+    };
+    let [n, q] = [[n0, n1], [q0, q1]].map(|two| usize::from(u16::from_be_bytes(two)));
+    let past = (n + q + 1).min(65_535);
+    let far = random.between(past, 65_535);
+    let bad = random.one_of(&[0, past, far]) as u16;
+    let record = output_record(random, call);
+    record
+        .map(|record| record[2..].copy_from_slice(&bad.to_be_bytes()))
+        .is_some()
 }
 
 fn spoil_gate_mark(random: &mut Random, call: &mut Call) -> bool {
@@ -281,9 +365,13 @@ fn spoil_value(random: &mut Random, call: &mut Call) -> bool {
 
 fn spoil_token_list(random: &mut Random, call: &mut Call) -> bool {
     match (call.operation, random.below(3)) {
-        (Operation::Evaluate | Operation::EvaluateGates | Operation::Decode, _) => {
-            relength(random, &mut call.tokens, 0)
-        }
+        (
+            Operation::Evaluate
+            | Operation::EvaluateGates
+            | Operation::OutputTokens
+            | Operation::Decode,
+            _,
+        ) => relength(random, &mut call.tokens, 0),
         (Operation::Pick, 0) => {
             // The same length on both sides, and no multiple of 16.
             let length = call.zero.len() / BLOCK * BLOCK + random.between(1, BLOCK - 1);

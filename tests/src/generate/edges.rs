@@ -1,10 +1,11 @@
 //! The edges of the refusals: from sound calls on small circuits, every argument is moved across
 //! each of its limits, one step at a time. Which refusal is due is not known here.
 
+use super::outputs::with_outputs;
 use super::{add_run, call_on, circuit, rekey, room, with_one_operand};
 use crate::block::BLOCK;
 use crate::call::{Call, Operation};
-use crate::circuit::Gate;
+use crate::circuit::{Circuit, Gate, Mark};
 use crate::random::Random;
 
 /// A call, and what was done to it.
@@ -22,14 +23,22 @@ struct Edges {
     found: Vec<Edge>,
 }
 
-/// All edges of an operation, each of garble in a run of its own.
+/// All edges of an operation, each of garble in a run of its own: by each scheme, and with the outputs named
+/// by one.
 pub fn edges(random: &mut Random, operation: Operation) -> Vec<Edge> {
     let mut found = Vec::new();
-    for (n, q, charged) in [(2, 1, 100), (3, 2, 0), (5, 9, 60)] {
+    for (n, q, charged, by_name) in [(2, 1, 100, 4), (3, 2, 0, 2), (5, 9, 60, 1)] {
         let bytes = circuit(random, n, q, charged);
         let bytes = with_one_operand(random, bytes);
         for scheme in 1..=4 {
             let base = with_scheme(random, operation, &bytes, scheme);
+            found.extend(around(base));
+        }
+        if operation.takes_bytes() {
+            let circuit = Circuit::read(&bytes).expect("an accepted circuit");
+            // The last wire, an input, and the last wire again.
+            let bytes = with_outputs(&circuit, &[n + q, 2, n + q]);
+            let base = with_scheme(random, operation, &bytes, by_name);
             found.extend(around(base));
         }
     }
@@ -80,6 +89,7 @@ fn around(base: Call) -> Vec<Edge> {
             edges.of_length("zeros", |call| &mut call.zero);
             edges.of_length("ones", |call| &mut call.one);
         }
+        Operation::OutputTokens => edges.of_length("wires", |call| &mut call.tokens),
         Operation::Evaluate | Operation::EvaluateGates | Operation::Decode => {
             edges.of_length("tokens", |call| &mut call.tokens);
             edges.of_material();
@@ -136,14 +146,43 @@ impl Edges {
                 call.circuit[2..8].copy_from_slice(&numbers);
             });
         }
-        let last = self.base.circuit.len() - 7;
+        let [n, _, q] = header(&self.base.circuit);
+        let last = 8 + 7 * (q - 1);
         for code in 0..=255 {
             self.add(format!("code {code}"), |call| call.circuit[last + 6] = code);
         }
-        for (a, b) in operands(last / 7 + usize::from(self.base.circuit[3])) {
+        for (a, b) in operands(n + q) {
             self.add(format!("operands {a}, {b}"), |call| {
                 let numbers = [a, b].map(u16::to_be_bytes).concat();
                 call.circuit[last + 2..last + 6].copy_from_slice(&numbers);
+            });
+        }
+        if Mark::of(&self.base.circuit) == Some(Mark::Named) {
+            self.of_outputs();
+        }
+    }
+
+    /// Named outputs: the wire of each, also beside another's faulty mark, and from none to one too many.
+    fn of_outputs(&mut self) {
+        let [n, m, q] = header(&self.base.circuit);
+        let start = 8 + 7 * q;
+        let wires = (0..=n + q + 2).chain([256, 4096, 65_535]);
+        for (k, wire) in (0..m).flat_map(|k| wires.clone().map(move |wire| (k, wire))) {
+            let (at, wire) = (start + 4 * k + 2, (wire as u16).to_be_bytes());
+            self.add(format!("output {k} is wire {wire:?}"), |call| {
+                call.circuit[at..at + 2].copy_from_slice(&wire)
+            });
+            self.add(format!("output {k} is wire {wire:?}, a mark too"), |call| {
+                call.circuit[at..at + 2].copy_from_slice(&wire);
+                call.circuit[start + 4 * (m / 2)] ^= 1;
+            });
+        }
+        for count in 0..=n + q + 1 {
+            self.add(format!("{count} outputs"), |call| {
+                call.circuit[4..6].copy_from_slice(&(count as u16).to_be_bytes());
+                call.circuit.truncate(start);
+                call.circuit
+                    .extend((0..count).flat_map(|_| [0x43, 0x4F, 0, 1]));
             });
         }
     }
@@ -239,15 +278,22 @@ impl Edges {
     }
 }
 
-/// Sizes on both sides of every limit.
+/// n, m and q of a circuit's header.
+fn header(circuit: &[u8]) -> [usize; 3] {
+    [2, 4, 6].map(|at| usize::from(u16::from_be_bytes([circuit[at], circuit[at + 1]])))
+}
+
+/// Sizes on both sides of every limit, of m for either mark.
 fn sizes() -> Vec<(u16, u16, u16)> {
     let mut sizes = Vec::new();
-    for n in [0, 1, 2, 3, 4095, 4096, 4097, 65_535] {
+    for n in [0u16, 1, 2, 3, 4095, 4096, 4097, 65_535] {
         for q in [
             0u16, 1, 2, 61_438, 61_439, 61_440, 65_532, 65_533, 65_534, 65_535,
         ] {
             let most = [0, 1, q.saturating_sub(1), q, q.saturating_add(1), 65_535];
             sizes.extend(most.map(|m| (n, m, q)));
+            let wires = n.saturating_add(q);
+            sizes.extend([wires, wires.saturating_add(1)].map(|m| (n, m, q)));
         }
     }
     sizes

@@ -2,9 +2,11 @@
 //! Faults are at the far end, where a place needs the most bits.
 
 use super::edges::Edge;
+use super::outputs::with_outputs;
 use super::{add_run, any_scheme, call_on, circuit, room, with_one_operand};
 use crate::block::BLOCK;
 use crate::call::{Call, Operation};
+use crate::circuit::{Circuit, Mark};
 use crate::random::Random;
 use crate::scheme::Scheme;
 
@@ -20,6 +22,15 @@ const SHAPES: [(u16, u16, usize); 8] = [
     (4096, 61_439, 90),
 ];
 
+/// The same with as many named outputs as there may be: all wires in falling order, so that inputs are among
+/// them. The largest has 720,879 bytes, which is the longest circuit there is.
+const NAMED_SHAPES: [(u16, u16, usize); 4] = [
+    (2, 1, 100),
+    (4096, 1, 0),
+    (2, 65_533, 40),
+    (4096, 61_439, 60),
+];
+
 /// A length that 16 bits do not hold.
 const LONG: usize = 70_000;
 
@@ -30,21 +41,41 @@ struct Calls {
     found: Vec<Edge>,
 }
 
-/// The calls of an operation on the shape of that number, each of garble in a run of its own; none
-/// past the last.
-pub fn calls(random: &mut Random, operation: Operation, shape: usize) -> Option<Vec<Edge>> {
+/// The circuit of a shape, by turns with m at both of its ends.
+fn shaped(random: &mut Random, shape: usize) -> Option<Vec<u8>> {
     let &(n, q, charged) = SHAPES.get(shape)?;
     let bytes = circuit(random, n, q, charged);
     let mut bytes = with_one_operand(random, bytes);
-    // m by turns at both of its ends.
     let m = if shape.is_multiple_of(2) { q } else { 1 };
     bytes[4..6].copy_from_slice(&m.to_be_bytes());
+    Some(bytes)
+}
+
+/// The circuit of a shape with named outputs.
+fn shaped_by_name(random: &mut Random, shape: usize) -> Option<Vec<u8>> {
+    let &(n, q, charged) = NAMED_SHAPES.get(shape)?;
+    let bytes = circuit(random, n, q, charged);
+    let bytes = with_one_operand(random, bytes);
+    let circuit = Circuit::read(&bytes).expect("an accepted circuit");
+    let falling: Vec<u16> = (1..=n + q).rev().collect();
+    Some(with_outputs(&circuit, &falling))
+}
+
+/// The calls of an operation on the shape of that number, each of garble in a run of its own; none
+/// past the last. An operation that takes a circuit's bytes has those with named outputs too.
+pub fn calls(random: &mut Random, operation: Operation, shape: usize) -> Option<Vec<Edge>> {
+    let bytes = match shape.checked_sub(SHAPES.len()) {
+        None => shaped(random, shape)?,
+        Some(shape) if operation.takes_bytes() => shaped_by_name(random, shape)?,
+        Some(_) => return None,
+    };
     let mut base = call_on(random, operation, &bytes);
     any_scheme(random, &mut base);
     base.lens = room(&base).expect("a sound call");
+    let [n, m, q] = [2, 4, 6].map(|at| u16::from_be_bytes([bytes[at], bytes[at + 1]]));
     let mut calls = Calls {
         base,
-        name: format!("n {n}, m {m}, q {q}"),
+        name: format!("n {n}, m {m}, q {q}, {} bytes", bytes.len()),
         found: Vec::new(),
     };
     calls.add("exact", |_| ());
@@ -52,7 +83,7 @@ pub fn calls(random: &mut Random, operation: Operation, shape: usize) -> Option<
     match operation {
         Operation::Pick => calls.of_pick(),
         Operation::EvaluateGates => calls.of_gates(n + q),
-        _ => calls.of_circuit(n + q),
+        _ => calls.of_circuit(n + q, q),
     }
     calls.of_lists();
     if !calls.base.material.is_empty() {
@@ -81,9 +112,14 @@ impl Calls {
         }
     }
 
-    /// The last gate, whose wire is `own`, with each fault; another length; a gate more than q.
-    fn of_circuit(&mut self, own: u16) {
-        let last = self.base.circuit.len() - 7;
+    /// The last gate, whose wire is `own`, of q, with each fault; another length; a gate more than q; and the
+    /// outputs, where they are named.
+    fn of_circuit(&mut self, own: u16, q: u16) {
+        let end = 8 + 7 * usize::from(q);
+        let last = end - 7;
+        if Mark::of(&self.base.circuit) == Some(Mark::Named) {
+            self.of_outputs(own);
+        }
         let own = own.to_be_bytes();
         self.add("last gate's mark", |call| call.circuit[last] ^= 1);
         self.add("last gate's operand is its own wire", |call| {
@@ -95,10 +131,32 @@ impl Calls {
             call.circuit.pop();
         });
         self.add("one gate more", |call| {
-            let q = u16::from_be_bytes([call.circuit[6], call.circuit[7]]) + 1;
-            call.circuit[6..8].copy_from_slice(&q.to_be_bytes());
-            call.circuit.extend([0x43, 0x47, 0, 1, 0, 2, 8]);
+            call.circuit[6..8].copy_from_slice(&(q + 1).to_be_bytes());
+            let gate = [0x43, 0x47, 0, 1, 0, 2, 8];
+            call.circuit.splice(end..end, gate);
         });
+    }
+
+    /// The last output, with each fault, where `last` is the last wire; an output more, which past 65,535 is
+    /// none in the header; and a record more or less than m.
+    fn of_outputs(&mut self, last: u16) {
+        let m = u16::from_be_bytes([self.base.circuit[4], self.base.circuit[5]]);
+        let record = self.base.circuit.len() - 4;
+        self.add("last output's mark", |call| call.circuit[record + 1] ^= 8);
+        for wire in [0, 1, last, last.wrapping_add(1), 65_535] {
+            self.add("last output's wire", |call| {
+                call.circuit[record + 2..].copy_from_slice(&wire.to_be_bytes())
+            });
+        }
+        self.add("one output more", |call| {
+            call.circuit[4..6].copy_from_slice(&m.wrapping_add(1).to_be_bytes());
+            call.circuit.extend([0x43, 0x4F, 0, 1]);
+        });
+        self.add("one record more", |call| {
+            call.circuit.extend([0x43, 0x4F, 0, 1]);
+        });
+        self.add("one record less", |call| call.circuit.truncate(record));
+        self.add("the mark 43 48", |call| call.circuit[1] = 0x48);
     }
 
     /// The same in the list form.

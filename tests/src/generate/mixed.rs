@@ -2,6 +2,7 @@
 //! tampered with, or noise. What must come of them is not known here.
 
 use super::damage::any_damaged_call;
+use super::outputs::any_outputs;
 use super::{
     add_run, any_call, any_scheme, call_on, circuit, program_input, room, with_one_operand,
 };
@@ -47,6 +48,7 @@ fn sized(random: &mut Random, operation: Operation, n: u16, q: u16) -> Call {
     let charged = random.one_of(&[5, 50, 100]);
     let bytes = circuit(random, n, q, charged);
     let bytes = with_one_operand(random, bytes);
+    let bytes = any_outputs(random, operation, bytes);
     let mut call = call_on(random, operation, &bytes);
     any_scheme(random, &mut call);
     add_run(random, &mut call);

@@ -1,9 +1,12 @@
-//! How often each refusal of each operation was met, which codes of gates, which runs and which schemes.
+//! How often each refusal of each operation was met, which codes of gates, which runs, which schemes, and
+//! which outputs.
 
 use std::collections::{BTreeMap, BTreeSet};
 
 use second::call::{Call, Operation};
 use second::interface::{self, Answer};
+
+use crate::outputs;
 
 /// What was met.
 #[derive(Default)]
@@ -21,6 +24,13 @@ pub struct Coverage {
     schemes: BTreeMap<(Operation, u8, u8), u64>,
     /// The schemes at refusal 14.
     refused_schemes: BTreeSet<u64>,
+    /// The calls of each operation that were not refused, by what its circuit's outputs are: a circuit may
+    /// count for several kinds.
+    outputs: BTreeMap<(Operation, &'static str), u64>,
+    /// The calls with named outputs that were refused by 25 or 26, by which of the outputs was at fault.
+    refused_outputs: BTreeMap<(u8, &'static str), u64>,
+    /// The longest circuit of each operation that was not refused.
+    longest: BTreeMap<Operation, usize>,
 }
 
 /// The operations that have a scheme.
@@ -61,10 +71,10 @@ fn codes(call: &Call) -> (Vec<u8>, u64) {
         let codes = call.gates.iter().map(|gate| gate.code);
         return (codes.collect(), u64::from(call.n) + 1);
     }
+    let [n, _, q] = outputs::header(&call.circuit);
     let records = call.circuit.get(8..).unwrap_or_default().chunks_exact(7);
-    let codes = records.map(|record| record[6]);
-    let n = call.circuit.get(2..4).unwrap_or(&[0, 0]);
-    (codes.collect(), 256 * u64::from(n[0]) + u64::from(n[1]) + 1)
+    let codes = records.take(q).map(|record| record[6]);
+    (codes.collect(), n as u64 + 1)
 }
 
 impl Coverage {
@@ -80,6 +90,7 @@ impl Coverage {
             self.taken.extend(codes(call).0);
         }
         self.count_scheme(call, answer);
+        self.count_outputs(call, answer);
         if answer.number == 7 {
             let (codes, first) = codes(call);
             let index = answer.words[0] - first;
@@ -96,6 +107,28 @@ impl Coverage {
         if let Some(scheme) = scheme(call).filter(|_| answer.number > 0 || charged()) {
             let of_scheme = (call.operation, scheme, answer.number);
             *self.schemes.entry(of_scheme).or_insert(0) += 1;
+        }
+    }
+
+    /// Counts the outputs of a call on a circuit's bytes that was answered so.
+    fn count_outputs(&mut self, call: &Call, answer: &Answer) {
+        if !outputs::WITH_BYTES.contains(&call.operation) {
+            return;
+        }
+        match answer.number {
+            0 => {
+                for kind in outputs::kinds(&call.circuit) {
+                    *self.outputs.entry((call.operation, kind)).or_insert(0) += 1;
+                }
+                let longest = self.longest.entry(call.operation).or_insert(0);
+                *longest = call.circuit.len().max(*longest);
+            }
+            25 | 26 => {
+                let place = outputs::place(&call.circuit, answer.words[0]);
+                let of_place = (answer.number, place);
+                *self.refused_outputs.entry(of_place).or_insert(0) += 1;
+            }
+            _ => {}
         }
     }
 
@@ -156,7 +189,7 @@ impl Coverage {
             };
             let done = [1, 2, 3, 4].map(|scheme| met(scheme, 0));
             println!("coverage: {name}, schemes 1 to 4: done {done:?}");
-            let after = operation.refusals().iter().filter(|&&number| number > 14);
+            let after = &operation.refusals()[operation.tried_before(14) + 1..];
             for (scheme, &number) in [0]
                 .iter()
                 .chain(after)
@@ -173,6 +206,40 @@ impl Coverage {
         if self.refused_schemes != others {
             let refused = &self.refused_schemes;
             missing.push(format!("schemes refused {refused:?}, not 0 and 5 to 255"));
+        }
+        missing
+    }
+
+    /// Each operation that takes a circuit's bytes was done on both marks, with outputs of every kind, and on
+    /// the longest circuit that there is; 25 and 26 were met at the first output, at the last, and between (02,
+    /// job 8): prints how often, and gives what was not met.
+    pub fn report_outputs(&self) -> Vec<String> {
+        let mut missing = Vec::new();
+        for operation in outputs::WITH_BYTES {
+            let name = interface::name(operation);
+            let mut line = format!("coverage: {name}, outputs:");
+            for kind in outputs::KINDS {
+                let met = self.outputs.get(&(operation, kind)).copied().unwrap_or(0);
+                line += &format!(" {kind} {met},");
+                if met == 0 {
+                    missing.push(format!("{name}, outputs: {kind}, never done"));
+                }
+            }
+            let longest = self.longest.get(&operation).copied().unwrap_or(0);
+            println!("{line} longest circuit of {longest} bytes");
+            if longest != outputs::LONGEST {
+                missing.push(format!("{name} never done on the longest circuit"));
+            }
+        }
+        for (number, place) in [25, 26]
+            .into_iter()
+            .flat_map(|number| outputs::PLACES.map(|place| (number, place)))
+        {
+            let met = self.refused_outputs.get(&(number, place)).copied();
+            println!("coverage: refusal {number}, {place}: {}", met.unwrap_or(0));
+            if met.is_none() {
+                missing.push(format!("refusal {number} never given for {place}"));
+            }
         }
         missing
     }

@@ -1,13 +1,13 @@
 //! The second implementation against the proved library's archive, through the C interface: edges of
 //! every refusal, every two refusals at once, circuits at the limits, stored cases, and random calls
-//! for a time. What must come
-//! back is the second implementation's answer; output buffers are compared whole.
+//! for a time. What must come back is the second implementation's answer; output buffers are compared whole.
 
 #[path = "../../src/archive.rs"]
 mod archive;
 mod compare;
 mod coverage;
 mod options;
+mod outputs;
 
 use std::env;
 use std::fs::File;
@@ -121,18 +121,20 @@ impl Run {
         }
     }
 
-    /// The stored cases of a third reading of 01, of 01 with 02's job 2, with its jobs 2 and 4, and with its
-    /// jobs 2, 4 and 7. The second implementation agrees with all of them.
+    /// The stored cases of a third reading of 01, of 01 with 02's job 2, with its jobs 2 and 4, with its jobs
+    /// 2, 4 and 7, and with its jobs 2, 4, 7 and 8. The second implementation agrees with all of them.
     fn stored(&mut self) {
         let base = include_str!("../../data/base.jsonl");
         let job02 = include_str!("../../data/job02.jsonl");
         let job04 = include_str!("../../data/job04.jsonl");
         let job07 = include_str!("../../data/job07.jsonl");
+        let job08 = include_str!("../../data/job08.jsonl");
         let files = [
             ("base", base),
             ("job02", job02),
             ("job04", job04),
             ("job07", job07),
+            ("job08", job08),
         ];
         for (name, text) in files {
             for case in &cases::read(text).expect("readable cases") {
@@ -175,12 +177,13 @@ impl Run {
     }
 
     /// Every refusal that an operation can give was met, every code and every scheme, taken or refused as
-    /// is due, and runs of every kind.
+    /// is due, runs of every kind, and both marks of a circuit, with outputs of every kind.
     fn all_met(&mut self) {
         let mut missing = self.coverage.report(&self.operations);
         missing.extend(self.coverage.report_codes());
         missing.extend(self.coverage.report_runs());
         missing.extend(self.coverage.report_schemes());
+        missing.extend(self.coverage.report_outputs());
         for missing in missing {
             println!("NOT MET: {missing}");
             self.failures += 1;

@@ -8,7 +8,8 @@ use second::refused::Refused;
 const CHARGED: [u8; 8] = [1, 2, 4, 7, 8, 11, 13, 14];
 const FREE: [u8; 6] = [3, 5, 6, 9, 10, 12];
 
-/// The answer due: the first condition that holds, in rising number, or the numbers returned.
+/// The answer due: the first condition that holds, in the order in which they are tried, or the numbers
+/// returned.
 pub fn answer(call: &Call) -> Result<Vec<u64>, Refused> {
     let given = Given::new(call);
     for &number in call.operation.refusals() {
@@ -65,10 +66,15 @@ impl Given<'_> {
         }
     }
 
+    /// Whether the outputs are named, by the mark 43 49.
+    fn is_named(&self) -> bool {
+        self.circuit[..2] == [0x43, 0x49]
+    }
+
     /// The gate records in file order, each with its wire number.
     fn gates(&self) -> impl Iterator<Item = (&[u8], usize)> {
         let records = self.circuit.get(8..).unwrap_or_default();
-        records.chunks_exact(7).zip(self.n + 1..)
+        records.chunks_exact(7).zip(self.n + 1..=self.n + self.q)
     }
 
     /// The wire numbers of the charged gates, in file order.
@@ -97,6 +103,7 @@ impl Given<'_> {
             Operation::Plain => vec![wires],
             Operation::Garble => vec![self.material_length(), 16 * wires, 16 * n],
             Operation::Encode => vec![16 * n],
+            Operation::OutputTokens => vec![16 * self.m],
             Operation::Evaluate | Operation::EvaluateGates => vec![16 * wires],
             Operation::Decode => vec![self.m],
         }
@@ -119,15 +126,12 @@ impl Given<'_> {
     /// The place of a condition, if it holds. None before it does, so there is what it looks at.
     fn place(&self, number: u8) -> Option<usize> {
         let Given { call, circuit, .. } = self;
-        let (n, m, q, material) = (self.n, self.m, self.q, &call.material);
+        let (n, material) = (self.n, &call.material);
         let (holds, place) = match (number, call.operation) {
             (1, _) => (circuit.len() < 8, circuit.len()),
-            (2, _) => (circuit[..2] != [0x43, 0x48], 0),
-            (3, _) => {
-                let limits = (2..=4096).contains(&n) && 1 <= m && m <= q && n + q <= 65_535;
-                (!limits, 2)
-            }
-            (4, _) => (circuit.len() != 8 + 7 * q, circuit.len()),
+            (2, _) => (circuit[..2] != [0x43, 0x48] && !self.is_named(), 0),
+            (3, _) => (self.breaks_limit(), 2),
+            (4, _) => (circuit.len() != self.circuit_length(), circuit.len()),
             (5..=7, _) => {
                 let (found, wire) = self.faulty_gate()?;
                 (found == number, wire)
@@ -147,19 +151,55 @@ impl Given<'_> {
             (15, _) => (material[3..9] != circuit[2..8], 3),
             (16, _) => (material.len() != self.material_length(), material.len()),
             (17, _) => return self.faulty_record(),
-            (18, _) => {
-                let (before, last) = material.split_at(material.len() - 2 - m);
-                let over = last[2..].iter().any(|&byte| byte > 1);
-                (last[..2] != [0x47, 0x44] || over, before.len())
-            }
+            (18, _) => return self.faulty_last_record(),
             (19, _) => return self.short_buffer(),
             (20, _) => {
                 let wire = usize::from(call.wire);
                 (wire == 0 || 16 * wire > call.zero.len(), wire)
             }
+            (25 | 26, _) => {
+                let (found, output) = self.faulty_output()?;
+                (found == number, output)
+            }
             _ => panic!("there is no refusal {number}"),
         };
         holds.then_some(place)
+    }
+
+    /// 3: n, q or n+q, or m, which has another limit where the outputs are named.
+    fn breaks_limit(&self) -> bool {
+        let Given { n, m, q, .. } = *self;
+        let most = if self.is_named() { n + q } else { q };
+        let sizes = (2..=4096).contains(&n) && 1 <= q && n + q <= 65_535;
+        !sizes || m < 1 || m > most
+    }
+
+    /// 4: the length due to the circuit.
+    fn circuit_length(&self) -> usize {
+        let outputs = if self.is_named() { 4 * self.m } else { 0 };
+        8 + 7 * self.q + outputs
+    }
+
+    /// 18: where the last record starts, if its mark is wrong or a byte of it exceeds 1.
+    fn faulty_last_record(&self) -> Option<usize> {
+        let material = &self.call.material;
+        let (before, last) = material.split_at(material.len() - 2 - self.m);
+        let over = last[2..].iter().any(|&byte| byte > 1);
+        (last[..2] != [0x47, 0x44] || over).then_some(before.len())
+    }
+
+    /// 25 and 26, one search: the first output record with a fault, and its lower number.
+    fn faulty_output(&self) -> Option<(u8, usize)> {
+        let records = self.circuit[8 + 7 * self.q..].chunks(4).zip(1..);
+        records.into_iter().find_map(|(record, output)| {
+            let wire = number_at(record, 2);
+            let faults = [
+                (25, record[..2] != [0x43, 0x4F]),
+                (26, wire == 0 || wire > self.n + self.q),
+            ];
+            let lower = faults.into_iter().find(|&(_, holds)| holds);
+            lower.map(|(number, _)| (number, output))
+        })
     }
 
     /// 5 to 7, one search: the first gate with a fault, and that gate's lowest number.
@@ -182,6 +222,7 @@ impl Given<'_> {
         let (lists, due) = match call.operation {
             Operation::Encode => (vec![&call.zero, &call.one], 16 * self.n),
             Operation::Decode => (vec![&call.tokens], 16 * self.m),
+            Operation::OutputTokens => (vec![&call.tokens], 16 * (self.n + self.q)),
             _ => (vec![&call.tokens], 16 * self.n),
         };
         let mut lengths = lists.into_iter().map(Vec::len);
