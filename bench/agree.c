@@ -114,6 +114,19 @@ static void agree_on_changed(struct subject *s, unsigned calls)
     }
 }
 
+/* Every bit of these bytes of the circuit changed. */
+static void agree_on_bits(struct subject *s, size_t from, size_t to)
+{
+    for (size_t bit = 8 * from; bit < 8 * to; bit++) {
+        uint8_t scheme = (uint8_t)(1 + bit % 4), flip = (uint8_t)(1u << bit % 8);
+        run_garble(&workers[0], s, scheme);
+        s->circuit[bit / 8] ^= flip;
+        agree_on_evaluate(s);
+        agree_on_garble(s, scheme);
+        s->circuit[bit / 8] ^= flip;
+    }
+}
+
 /* Every scheme byte, as the argument and in material of every scheme: schemes 3 and 4 take each other's. */
 static void agree_on_schemes(struct subject *s)
 {
@@ -131,6 +144,7 @@ void agree_on_damage(unsigned calls)
 {
     struct subject s = make_subject(150);
     agree_on_changed(&s, calls);
+    agree_on_bits(&s, 0, 8);
     agree_on_schemes(&s);
     free_subject(&s);
 }
@@ -153,5 +167,19 @@ void agree_on_one_operand(unsigned calls)
     use_one_operand(&s);
     agree_on(&s);
     agree_on_changed(&s, calls);
+    free_subject(&s);
+}
+
+void agree_on_named(unsigned calls)
+{
+    struct subject s = make_subject(150);
+    size_t outputs = s.circuit_length;
+    use_one_operand(&s);
+    name_outputs(&s);
+    agree_on(&s);
+    agree_on_changed(&s, calls);
+    agree_on_bits(&s, 0, 8);
+    agree_on_bits(&s, outputs, outputs + 4);
+    agree_on_bits(&s, s.circuit_length - 4, s.circuit_length);
     free_subject(&s);
 }

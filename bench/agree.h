@@ -7,7 +7,8 @@
 /* Garbles and evaluates by every worker and compares all that is written; ends the program where they differ. */
 void agree_on(struct subject *s);
 
-/* The same on so many calls with one byte of an argument changed, where most are refused, and with every scheme byte. */
+/* The same on so many calls with one bit of an argument changed, where most are refused, with every bit of the circuit's
+ * header, its mark among them, and with every scheme byte. */
 void agree_on_damage(unsigned calls);
 
 /* Both with each of four run numbers other than 0. */
@@ -15,5 +16,8 @@ void agree_on_runs(unsigned calls);
 
 /* Both on a circuit in which half of the free gates use one operand. */
 void agree_on_one_operand(unsigned calls);
+
+/* Both on a circuit whose outputs are named, with every bit of its first and its last output record too. */
+void agree_on_named(unsigned calls);
 
 #endif

@@ -25,18 +25,35 @@ static unsigned check_gates(const uint8_t *circuit, struct sizes *z, uint64_t *p
     return 0;
 }
 
+/* Refusals 25 and 26: the search over the output records. */
+static unsigned check_outputs(const uint8_t *circuit, const struct sizes *z, uint64_t *place)
+{
+    const uint8_t *record = circuit + 8 + 7 * z->q;
+    for (size_t output = 1; output <= z->m; output++, record += 4) {
+        unsigned wire = number16(record + 2);
+        if (record[0] != 0x43 || record[1] != 0x4F)
+            return refuse(place, output, 25);
+        if (wire < 1 || wire > z->n + z->q)
+            return refuse(place, output, 26);
+    }
+    return 0;
+}
+
 unsigned check_circuit(const uint8_t *circuit, size_t length, struct sizes *z, uint64_t *place)
 {
     if (length < 8)
         return refuse(place, length, 1);
-    if (circuit[0] != 0x43 || circuit[1] != 0x48)
+    unsigned named = is_named(circuit);
+    if (circuit[0] != 0x43 || (circuit[1] != 0x48 && !named))
         return refuse(place, 0, 2);
     *z = (struct sizes){number16(circuit + 2), number16(circuit + 4), number16(circuit + 6), 0};
-    if (z->n < 2 || z->n > 4096 || z->m < 1 || z->m > z->q || z->n + z->q > 65535)
+    size_t most = named ? z->n + z->q : z->q;
+    if (z->n < 2 || z->n > 4096 || z->m < 1 || z->m > most || z->q < 1 || z->n + z->q > 65535)
         return refuse(place, 2, 3);
-    if (length != 8 + 7 * z->q)
+    if (length != 8 + 7 * z->q + (named ? 4 * z->m : 0))
         return refuse(place, length, 4);
-    return check_gates(circuit, z, place);
+    unsigned number = check_gates(circuit, z, place);
+    return number == 0 && named ? check_outputs(circuit, z, place) : number;
 }
 
 /* Refusals 17 and 18: the row record of each charged gate, and the last record. */

@@ -1,4 +1,5 @@
-/* The circuit and the material as files: their sizes and their refusals (1 to 7 and 12 to 18), for the baselines in C. */
+/* The circuit and the material as files: their sizes, the circuit's outputs, and their refusals (1 to 7, 25, 26 and 12 to 18), for
+ * the baselines in C. */
 #ifndef FILES_H
 #define FILES_H
 
@@ -13,6 +14,18 @@ struct sizes {
 static inline unsigned number16(const uint8_t *at)
 {
     return (unsigned)at[0] << 8 | at[1];
+}
+
+/* Whether the outputs are named, by the mark 43 49: then m output records stand after the gates. */
+static inline unsigned is_named(const uint8_t *circuit)
+{
+    return circuit[1] == 0x49;
+}
+
+/* The wire of output i, counted from 0, of an accepted circuit: the one named, or one of the last m. */
+static inline size_t output_wire(const uint8_t *circuit, const struct sizes *z, size_t i)
+{
+    return is_named(circuit) ? number16(circuit + 8 + 7 * z->q + 4 * i + 2) : z->n + z->q - z->m + 1 + i;
 }
 
 /* Whether a code is charged: 1, 2, 4, 7, 8, 11, 13, 14. */
@@ -55,7 +68,7 @@ static inline size_t material_length(const struct sizes *z, unsigned scheme)
     return 11 + z->m + z->p * (4 + 16 * rows_of(scheme));
 }
 
-/* Refusals 1 to 7: the number, or 0 and the sizes. */
+/* Refusals 1 to 7, 25 and 26: the number, or 0 and the sizes. */
 unsigned check_circuit(const uint8_t *circuit, size_t length, struct sizes *z, uint64_t *place);
 
 /* Refusals 12 to 18 of material for an accepted circuit. */

@@ -82,6 +82,7 @@ static void measure_all(unsigned rounds, unsigned first)
     }
     agree_on_one_operand(600);
     agree_on_runs(75);
+    agree_on_named(600);
     for (unsigned round = 0; round < rounds; round++)
         for (int size = 0; size < SIZES; size++)
             measure(&subjects[size], times[size], round, (first + round) % worker_count);

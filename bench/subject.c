@@ -90,6 +90,20 @@ void use_one_operand(struct subject *s)
     }
 }
 
+void name_outputs(struct subject *s)
+{
+    uint8_t *named = room(s->circuit_length + 4 * OUTPUTS), *record = named + s->circuit_length;
+    memcpy(named, s->circuit, s->circuit_length);
+    named[1] = 0x49;
+    for (size_t i = 0; i < OUTPUTS; i++, record += 4) {
+        record[0] = 0x43, record[1] = 0x4F;
+        put16(record + 2, i == 0 ? 1 : i == 1 ? s->wires : 1 + random_below(s->wires));
+    }
+    free(s->circuit);
+    s->circuit = named;
+    s->circuit_length += 4 * OUTPUTS;
+}
+
 void free_subject(struct subject *s)
 {
     free(s->circuit);

@@ -38,6 +38,10 @@ struct subject make_subject(size_t q);
  * such gate. */
 void use_one_operand(struct subject *s);
 
+/* Names the outputs: as many as before, the first wire, the last, and any others, of which some come again. What is measured
+ * has the mark 43 48. */
+void name_outputs(struct subject *s);
+
 void free_subject(struct subject *s);
 
 /* The operations on the subject; each ends the program if the worker refuses. `tokens` holds a token for each input: the

@@ -107,9 +107,8 @@ static void garble_all(unsigned scheme, const uint8_t *circuit, const struct siz
     else
         at = garble_gates(4, circuit, z, &seed, &o, at, zeros);
     at[0] = 0x47, at[1] = 0x44;
-    const uint8_t *last = zeros + 16 * (z->n + z->q - z->m) + 15;
     for (size_t i = 0; i < z->m; i++)
-        at[2 + i] = last[16 * i] & 1;
+        at[2 + i] = zeros[16 * (output_wire(circuit, z, i) - 1) + 15] & 1;
 }
 
 uint8_t NAME(garble)(const uint8_t *circuit, size_t length, const uint8_t *seed, size_t seed_length, uint64_t run,
