@@ -40,8 +40,8 @@ pub record WiresRight (c seed : List ℕ) (want : Wanted) (v z′ w′ : List �
 pub record BitsRight (c v b′ : List ℕ) : Type 0 where
   pub decoded : take (outputs c) b′ ≡ map (carries c v) (circuitOf c .outputs)
 
--- refusal 19, a buffer too short: "With the arguments that demand 3 names, only 19 can refuse one of the four"; nor can another where the outputs'
--- tokens are taken
+-- refusal 19, a buffer too short: "With the arguments that demand 3 names, only 19 can refuse one of the four"; the same of the call that takes
+-- the outputs' tokens
 pub record IsRoom (e : Verdict) : Type 0 where
   pub needed : ℕ
   pub is-19 : e ≡ refused 19 needed

@@ -36,11 +36,11 @@ fn read_output(circuit: &[u8], h: Header, k: usize) -> Ran
     if circuit[at + 1] != 0x4F {
         return Ran::Refused(Refusal::OutputMark(place));
     }
-    let w = read16(circuit, at + 2) as usize;
-    if w < 1 {
+    let w = Wire(read16(circuit, at + 2));
+    if w.0 < 1 {
         return Ran::Refused(Refusal::OutputWire(place));
     }
-    if h.n + h.q < w {
+    if h.n + h.q < w.0 as usize {
         return Ran::Refused(Refusal::OutputWire(place));
     }
     Ran::Done

@@ -65,8 +65,8 @@ module _ (c seed : List ℕ) (want : Wanted) (values : List ℕ) where
     pub at-one : (w : ℕ) → 1 ≤ w → w ≤ inputs c + gates c → (distanceAt w ≡ offset chained) ↔ (carries c values w ≡ 1)
     pub decoded : chainBits ≡ map (carries c values) (circuitOf c .outputs)
 
-  -- "With the arguments that demand 3 names, only 19 can refuse one of the four", nor what takes the outputs' tokens (02, job 8): each says what its
-  -- buffers' rooms say
+  -- "With the arguments that demand 3 names, only 19 can refuse one of the four"; the same of what takes the outputs' tokens (02, job 8). Each says what
+  -- its buffers' rooms say
   pub record OnlyRoom : Type 0 where
     pub garble-room : (km kz ko : ℕ) → garbleVerdict c seed want km kz ko
         ≡ (roomVerdict (materialLength (want .scheme) (outputs c) (charges (circuitOf c .gates))) km
