@@ -64,7 +64,8 @@ pub record RowsRight (c s : List ℕ) (k at : ℕ) : Type 0 where
 pub record Guessed (c s : List ℕ) (k at : ℕ) : Type 0 where
   pub rows : (at ≡ 0 → ⊥) → Filed c (sizesOf c) s → RowsRight c s k at
 
--- pass 0: k gates have no fault, and the circuit, which the records stand for, does not name its outputs; the index is where the next row record is due, or 0, and no further than k row records of four rows reach
+-- pass 0: k gates have no fault, and the circuit, for which the records stand, does not name its outputs; the index is where the next row record is
+-- due, or 0, and no further than k row records of four rows reach
 pub record Tried (c s o : List ℕ) (left k : ℕ) (z : Sizes) (at : ℕ) (d : List ℕ) : Type 0 where
   pub head : headVerdict c ≡ fine
   pub last-wires : named c ≡ false
