@@ -20,8 +20,8 @@ The baselines are the same work in C (`bench/*.c`): the same files in and out, t
 by side. Both take a bit times a block by a mask and use that doubling and σ are linear. Under scheme 4 both expand two keys for a charged
 gate, garbling and evaluating, round by round beside the blocks that these encipher. Compiled by gcc with `-O3 -march=native`; the library
 is built for plain x86-64. In the same runs all that they write was compared with the library's, byte for byte, on each
-circuit measured, on one with gates that use one operand too, on one garbled with four run numbers other than 0, on 1,500 calls with
-a byte of an argument changed, and with every scheme byte. What is measured has run number 0.
+circuit measured, on one with gates that use one operand too, on one garbled with four run numbers other than 0, on one whose outputs are
+named, on 2,100 calls with a bit of an argument changed, and with every scheme byte. What is measured has run number 0 and the mark 43 48.
 """
 
 CHAINED = """Chained rounds: the library once more, made by `bench/chained`, with AES by SubBytes, ShiftRows, MixColumns and AddRoundKey one
