@@ -39,6 +39,10 @@ pub fn number_and_place(f: Refusal) -> Turned
         Refusal::LastRecord(at) => numbered(18, at),
         Refusal::Room(l) => numbered(19, l),
         Refusal::PickWire(w) => numbered(20, w.0 as usize),
+        Refusal::Width(w) => numbered(21, w),
+        Refusal::TextLine(k) => numbered(22, k),
+        Refusal::TextCounts => numbered(23, 1),
+        Refusal::TextOutput(k) => numbered(24, k),
         Refusal::OutputMark(k) => numbered(25, k),
         Refusal::OutputWire(k) => numbered(26, k),
     }

@@ -10,6 +10,7 @@ use Rattle.model.specs.declared.Checked.{Checked}
 use Rattle.model.specs.declared.Ran.{Ran}
 use Rattle.model.specs.declared.Garbled.{Garbled}
 use Rattle.model.specs.declared.Evaluated.{Evaluated}
+use Rattle.model.specs.declared.Wrote.{Wrote}
 use Rattle.model.specs.declared.Gate.{Gate}
 use Rattle.model.specs.declared.Wanted.{Wanted}
 use Rattle.model.specs.Bytes.{over}
@@ -184,3 +185,9 @@ partOf (refused i x) part = []
 
 unfoldable pub pickPart : List ℕ → List ℕ → ℕ → ℕ → List ℕ
 pickPart zs os w bit = partOf (pickVerdict zs os w bit) (tokenAt (cond (eqb bit 0) zs os) w)
+
+-- ---- "What writes a circuit or a text returns its length." (02, job 1)
+
+abbrev pub wroteOf : Wrote → Answer ℕ
+wroteOf (Wrote.Done l) = yes l
+wroteOf (Wrote.Refused f) = no (verdictOf f)

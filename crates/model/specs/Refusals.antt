@@ -1,4 +1,4 @@
--- Document 01, "Turned down, by number"; and of document 02, job 8, 25 and 26.
+-- Document 01, "Turned down, by number"; and of document 02, jobs 1 and 5, the numbers 21 to 24, and job 8, 25 and 26.
 use Prim.Native.Nat.{ℕ, zero, suc, _+_, _*_, _%_}
 use mathlib.Core.List.{List}
 use mathlib.Core.Bool.{Bool, true, false, not, cond, _&&_, _||_}
@@ -7,7 +7,7 @@ use lib.Dec.{ltb, leb, eqb}
 use Rattle.model.specs.declared.Gate.{Gate}
 use Rattle.model.specs.declared.Sizes.{Sizes}
 use Rattle.model.specs.declared.Refusal.{Refusal}
-use Rattle.model.specs.declared.Refusal.the-variants.{CircuitShort, CircuitMark, Limits, CircuitLength, GateMark, Operands, Code, SeedLength, ValuesLength, Value, TokensLength, MaterialShort, MaterialMark, Scheme, MaterialSizes, MaterialLength, RowRecord, LastRecord, Room, PickWire, OutputMark, OutputWire}
+use Rattle.model.specs.declared.Refusal.the-variants.{CircuitShort, CircuitMark, Limits, CircuitLength, GateMark, Operands, Code, SeedLength, ValuesLength, Value, TokensLength, MaterialShort, MaterialMark, Scheme, MaterialSizes, MaterialLength, RowRecord, LastRecord, Room, PickWire, Width, TextLine, TextCounts, TextOutput, OutputMark, OutputWire}
 use Rattle.model.specs.Bytes.{be16}
 use Rattle.model.specs.Circuit as C
 use Rattle.model.specs.Circuit.{Circuit, Kind, kindOf, charges, codeAt, markAt, inputs, outputs, gates, named, recordAt, gateAt, outputRecordAt, outputAt, sizesHold, circuitLength, operandsHold, gateWire}
@@ -57,6 +57,10 @@ numberOf (RowRecord w) = 17
 numberOf (LastRecord at) = 18
 numberOf (Room l) = 19
 numberOf (PickWire w) = 20
+numberOf (Width w) = 21
+numberOf (TextLine k) = 22
+numberOf TextCounts = 23
+numberOf (TextOutput k) = 24
 numberOf (OutputMark k) = 25
 numberOf (OutputWire k) = 26
 
@@ -81,6 +85,10 @@ placeOf (RowRecord w) = w .0
 placeOf (LastRecord at) = at
 placeOf (Room l) = l
 placeOf (PickWire w) = w .0
+placeOf (Width w) = w
+placeOf (TextLine k) = k
+placeOf TextCounts = 1
+placeOf (TextOutput k) = k
 placeOf (OutputMark k) = k
 placeOf (OutputWire k) = k
 

@@ -51,6 +51,10 @@ pub enum Refusal {
     LastRecord(usize),
     Room(usize),
     PickWire(Wire),
+    Width(usize),
+    TextLine(usize),
+    TextCounts,
+    TextOutput(usize),
     OutputMark(usize),
     OutputWire(usize),
 }
@@ -89,6 +93,12 @@ pub enum Garbled {
 
 // The answer of evaluate: the encryptions, or the refusal.
 pub enum Evaluated {
+    Done(usize),
+    Refused(Refusal),
+}
+
+// The answer of what writes a circuit or a text: its length (02, job 1), or the refusal.
+pub enum Wrote {
     Done(usize),
     Refused(Refusal),
 }
