@@ -1,4 +1,4 @@
--- Laws of circuits: one gate more. Assumes nothing.
+-- Laws of circuits: one gate more, and more gates. Assumes nothing.
 use Prim.Native.Nat.{ℕ, zero, suc, _+_, _-_, _≤_, _<_}
 use native.Mathlib.Nat.{add-zero, add-suc}
 use native.Mathlib.Omega.{arith}
@@ -14,6 +14,11 @@ pub charges-snoc : (gs : List Gate) (g : Gate) → charges (gs ++ (g ∷ [])) �
 unfolding charges
 charges-snoc [] g = omega arith
 charges-snoc (x ∷ gs) g = omega (arith, charges-snoc gs g)
+
+pub charges-append : (gs hs : List Gate) → charges (gs ++ hs) ≡ charges gs + charges hs
+unfolding charges
+charges-append [] hs = omega arith
+charges-append (g ∷ gs) hs = omega (arith, charges-append gs hs)
 
 pub charge-le : (k : Kind) → charge k ≤ 1
 charge-le (charged u v x) = omega arith
@@ -43,6 +48,11 @@ module _ {A : Type 0} (step : List A → Gate → A) where
   unfolding wires
   wires-snoc [] g ws = refl
   wires-snoc (x ∷ gs) g ws = wires-snoc gs g (ws ++ (step ws x ∷ []))
+
+  pub wires-append : (gs hs : List Gate) (ws : List A) → wires step (gs ++ hs) ws ≡ wires step hs (wires step gs ws)
+  unfolding wires
+  wires-append [] hs ws = refl
+  wires-append (g ∷ gs) hs ws = wires-append gs hs (ws ++ (step ws g ∷ []))
 
   pub wires-length : (gs : List Gate) (ws : List A) → length (wires step gs ws) ≡ length ws + length gs
   unfolding wires

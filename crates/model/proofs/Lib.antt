@@ -39,6 +39,7 @@ pub mod Places
 pub mod Chain
 pub mod OwnMaterial
 pub mod Records
+pub mod Made
 pub mod Demand3
 mod OldMark
 pub mod Kept

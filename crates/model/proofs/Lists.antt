@@ -68,17 +68,19 @@ from-map {A} {B} g i (suc n) f = ap (λ (r : List B). g (f i) ∷ r) (from-map g
 pub tabulate-map : {A B : Type 0} (g : A → B) (n : ℕ) (f : ℕ → A) → map g (tabulate n f) ≡ tabulate n (λ k. g (f k))
 tabulate-map g n f = from-map g 0 n f
 
-from-suc : (i n : ℕ) (x : ℕ) (l : List ℕ) → from (suc i) n (λ k. getD (x ∷ l) k 0) ≡ from i n (λ k. getD l k 0)
-from-suc i zero x l = refl
-from-suc i (suc n) x l = ap (λ (r : List ℕ). getD l i 0 ∷ r) (from-suc (suc i) n x l)
+-- a list is the table of its entries, d what stands past its end
+module _ {A : Type 0} (d : A) where
+  from-suc : (i n : ℕ) (x : A) (l : List A) → from (suc i) n (λ k. getD (x ∷ l) k d) ≡ from i n (λ k. getD l k d)
+  from-suc i zero x l = refl
+  from-suc i (suc n) x l = ap (λ (r : List A). getD l i d ∷ r) (from-suc (suc i) n x l)
 
-tabulate-getD : (l : List ℕ) → tabulate (length l) (λ i. getD l i 0) ≡ l
-tabulate-getD [] = refl
-tabulate-getD (x ∷ l) = ap (λ (r : List ℕ). x ∷ r) (from-suc 0 (length l) x l ∙ tabulate-getD l)
+  pub tabulate-getD : (l : List A) → tabulate (length l) (λ i. getD l i d) ≡ l
+  tabulate-getD [] = refl
+  tabulate-getD (x ∷ l) = ap (λ (r : List A). x ∷ r) (from-suc 0 (length l) x l ∙ tabulate-getD l)
 
--- a list is the table of its entries
+-- the same of numbers, by their count
 pub elements : (n : ℕ) (l : List ℕ) → length l ≡ n → tabulate n (λ i. getD l i 0) ≡ l
-elements n l h = ap (λ (n : ℕ). tabulate n (λ i. getD l i 0)) (sym h) ∙ tabulate-getD l
+elements n l h = ap (λ (n : ℕ). tabulate n (λ i. getD l i 0)) (sym h) ∙ tabulate-getD 0 l
 
 -- a function on each of them
 pub map-elements : {A : Type 0} (g : ℕ → A) (n : ℕ) (l : List ℕ) → length l ≡ n → map g l ≡ tabulate n (λ i. g (getD l i 0))

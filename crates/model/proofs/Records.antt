@@ -2,9 +2,9 @@
 use Prim.Native.Nat.{ℕ, zero, suc, _+_, _*_, _≤_, _<_}
 use native.Mathlib.Nat.{le-of-suc-le-suc, not-suc-le-zero}
 use native.Mathlib.Omega.{arith}
-use mathlib.Core.Path.{_≡_, refl, _∙_}
+use mathlib.Core.Path.{_≡_, refl, sym, _∙_}
 use mathlib.Core.Bool.{Bool, true, false, not}
-use mathlib.Core.List.{List, [], _∷_, _++_}
+use mathlib.Core.List.{List, [], _∷_, _++_, append-assoc}
 use borrow.Author.Tests.{le-ltb, eq-eqb}
 use lib.ListN.{length, getD, List·getD-append}
 use lib.Seq.{getD-append-add}
@@ -25,7 +25,12 @@ pub record GateFits (g : Gate) : Type 0 where
 
 -- ---- the records
 
-records-long : (gs : List Gate) → length (recordBytes gs) ≡ 7 * length gs
+pub records-append : (gs hs : List Gate) → recordBytes (gs ++ hs) ≡ recordBytes gs ++ recordBytes hs
+unfolding recordBytes
+records-append [] hs = refl
+records-append (g ∷ gs) hs = rw (records-append gs hs) (sym (append-assoc (gateBytes g) (recordBytes gs) (recordBytes hs)))
+
+pub records-long : (gs : List Gate) → length (recordBytes gs) ≡ 7 * length gs
 unfolding recordBytes gateBytes
 records-long [] = refl
 records-long (g ∷ gs) = omega (arith, records-long gs)
