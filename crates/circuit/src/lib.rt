@@ -1,4 +1,4 @@
-// Circuits (01, Circuit): what a code means, the header, the gates, the outputs, and the operations check and plain (01, Operations).
+// Circuits (01, Circuit): what a code means, the header, the gates, the outputs, their bytes, and the operations check and plain (01, Operations).
 ghost use mathlib.Core.Path.{_≡_};
 ghost use Rattle.model.specs.Operations.{checkedOf, checkAnswer, ranOf, PlainIs};
 use crate::gates::Searched;
@@ -20,6 +20,7 @@ pub mod header;
 pub mod outputs;
 pub mod refusal;
 pub mod values;
+pub mod writers;
 
 // The sizes n, m, q and p of a circuit, or the first of refusals 1 to 7, 25, 26.
 pub fn check(circuit: &[u8]) -> Checked
