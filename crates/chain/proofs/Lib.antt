@@ -7,3 +7,4 @@ pub mod OutputLaws
 pub mod EvaluateLaws
 pub mod EncodeLaws
 pub mod ChainLaws
+pub mod ComparisonLaws

@@ -13,14 +13,14 @@ use Rattle.model.specs.Circuit.{kinds, kindOf, charges, value, circuitOf, lastW
 use Rattle.model.specs.Refusals.{fine, circuitVerdict}
 use Rattle.model.specs.Operations.{sizesOf}
 use Rattle.model.specs.Demand3.{carries}
-use Rattle.model.proofs.Lists.{tabulate-length, entry}
 use Rattle.model.proofs.Circuits.{charges-append, wires-append}
 use Rattle.model.proofs.Codes.{Used, used-charged, used-free}
 use Rattle.model.proofs.Accepted.{GatesHold, no-gate, gate}
 use Rattle.model.proofs.Made.{Makes, gates-append, made-accepted, made-circuit, made-sizes}
-use Rattle.comparator.specs.Compares.{figureBits, figures, SaysAtMost, Compares}
+use Rattle.comparator.specs.Compares.{figures, SaysAtMost, Compares}
 use Rattle.comparator.specs.Comparator as C
 use Rattle.comparator.specs.Comparator.{soFar, bitGates, bitsTo, comparatorGates, comparatorBytes}
+use Rattle.comparator.proofs.FigureLaws.{is-bit, figures-long, price-at, ceiling-at}
 use Rattle.comparator.proofs.WriteLaws.{bits-many, gates-many}
 use Rattle.comparator.proofs.BitLaws.{Says, at-most, above, first-says, next-says, bit-wires}
 
@@ -83,36 +83,9 @@ makes w h l =
       gates-hold = gates-hold w h;
     }
 
--- ---- the values of the inputs
-module _ (w x y : ℕ) where
-  bits-long : (z : ℕ) → length (figureBits w z) ≡ w
-  unfolding figureBits
-  bits-long z = tabulate-length w _
-
-  bit-at : (z k : ℕ) → k < w → getD (figureBits w z) k 0 ≡ z / 2 ^ k % 2
-  unfolding figureBits
-  bit-at z k h = entry 0 w _ k h
-
-  figures-long : length (figures w x y) ≡ 2 * w
-  unfolding figures
-  figures-long = simp length-append (omega (arith, bits-long x, bits-long y))
-
-  price-at : (k : ℕ) → k < w → getD (figures w x y) k 0 ≡ x / 2 ^ k % 2
-  unfolding figures
-  price-at k h = List·getD-append (figureBits w x) (figureBits w y) 0 k (omega (arith, bits-long x)) ∙ bit-at x k h
-
-  ceiling-at : (k : ℕ) → k < w → getD (figures w x y) (w + k) 0 ≡ y / 2 ^ k % 2
-  unfolding figures
-  ceiling-at k h =
-      let at : w + k ≡ length (figureBits w x) + k = omega (arith, bits-long x) in
-      rw at (getD-append-add (figureBits w x) (figureBits w y) k 0) ∙ bit-at y k h
-
 -- a bit more of a number
 one-bit : (z k : ℕ) → z % 2 ^ (k + 1 + 1) ≡ (z / 2 ^ (k + 1) % 2) * 2 ^ (k + 1) + z % 2 ^ (k + 1)
 one-bit z k = let at : k + 1 + 1 ≡ 1 + (k + 1) = omega arith in rw at (mod-pow-add z 1 (k + 1))
-
-is-bit : (z : ℕ) → z % 2 ≤ 1
-is-bit z = omega arith
 
 -- ---- what the wires carry, once the gates of k bits above the lowest are done: the inputs' values are kept, and the last wire says whether the k + 1
 -- lowest bits of the price are at most those of the ceiling

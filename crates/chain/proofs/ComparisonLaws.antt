@@ -1,0 +1,52 @@
+-- The chain of a comparison: what `ChainIs` says of a comparator and the bits of two figures. Assumes nothing.
+use Prim.Native.Nat.{ℕ, _≤_, _<_, _^_}
+use mathlib.Core.Path.{_≡_, sym, ap, _∙_}
+use mathlib.Core.List.{List}
+use lib.ListN.{length, take}
+use Rattle.model.specs.declared.Sizes.{Sizes}
+use Rattle.model.specs.declared.Wanted.{Wanted}
+use Rattle.model.specs.Circuit.{inputs, outputs}
+use Rattle.model.specs.Garbling.{Known}
+use Rattle.model.specs.Operations.{sizesOf}
+use Rattle.model.specs.Demand3.{Allowed}
+use Rattle.comparator.specs.Compares.{figures, Compares}
+use Rattle.comparator.specs.Comparator.{comparatorBytes}
+use Rattle.comparator.proofs.FigureLaws.{figures-long, figures-bits}
+use Rattle.comparator.proofs.CompareLaws.{compares}
+use Rattle.chain.specs.declared.Chained.{Chained}
+use Rattle.chain.specs.Chain.{ChainIs}
+use Rattle.chain.specs.Comparison.{Compared, ComparisonHolds}
+
+module _ (w : ℕ) (c : List ℕ) (is : Compares w c) where
+  -- the arguments are those that demand 3 names
+  allowed : (price ceiling : ℕ) (seed : List ℕ) (want : Wanted) → length seed ≡ 16 → Known (want .scheme) → Allowed c seed want (figures w price ceiling)
+  unfolding sizesOf
+  allowed price ceiling seed want long known = record {
+    accepted = is .accepted;
+    known = known;
+    seed-bytes = long;
+    one-each = figures-long w price ceiling ∙ sym (ap (λ (z : Sizes). z .n) (is .sizes));
+    bits = figures-bits w price ceiling;
+  }
+
+  one-output : outputs c ≡ 1
+  unfolding sizesOf
+  one-output = ap (λ (z : Sizes). z .m) (is .sizes)
+
+  pub comparison : ComparisonHolds w c
+  comparison = record { compared = ended }
+    where
+      ended : (price ceiling : ℕ) → price < 2 ^ w → ceiling < 2 ^ w → (seed : List ℕ) (want : Wanted) → length seed ≡ 16 → Known (want .scheme)
+          → (f z o t ws y b f′ z′ o′ t′ ws′ y′ b′ : List ℕ) (r : Chained)
+          → ChainIs c seed want (figures w price ceiling) f z o t ws y b r f′ z′ o′ t′ ws′ y′ b′ → Compared price ceiling b′ r
+      ended price ceiling h l seed want long known f z o t ws y b f′ z′ o′ t′ ws′ y′ b′ Chained.Done p =
+          rw (rw one-output at (p .bits-right .decoded)) (is .at-most price ceiling h l)
+      ended price ceiling h l seed want long known f z o t ws y b f′ z′ o′ t′ ws′ y′ b′ (Chained.Garble e) p = p .only-19 (allowed price ceiling seed want long known)
+      ended price ceiling h l seed want long known f z o t ws y b f′ z′ o′ t′ ws′ y′ b′ (Chained.Encode e) p = p .only-19 (allowed price ceiling seed want long known)
+      ended price ceiling h l seed want long known f z o t ws y b f′ z′ o′ t′ ws′ y′ b′ (Chained.Evaluate e) p = p .only-19
+      ended price ceiling h l seed want long known f z o t ws y b f′ z′ o′ t′ ws′ y′ b′ (Chained.Outputs e) p = p .only-19
+      ended price ceiling h l seed want long known f z o t ws y b f′ z′ o′ t′ ws′ y′ b′ (Chained.Decode e) p = p .only-19
+
+-- and so of the circuit that `comparator` writes, for every width that it takes
+pub comparison-by-width : (w : ℕ) → 1 ≤ w → w ≤ 64 → ComparisonHolds w (comparatorBytes w)
+comparison-by-width w h l = comparison w (comparatorBytes w) (compares w h l)
