@@ -77,7 +77,7 @@ def body():
     evaluate(w)
     set_out(w)
     w.leave(LOCALS, LOCALS, ['number'] + HELD)
-    w.step('by ! (exits number v (bytes-of zs) (ws .0) (calls-handed _ _ (Answers (bytes-of zs)) (evaluatedOf r) is-answer is-out) l)')
+    w.step('by ! (exits number v (bytes-of zs) (ws .0) (number-handed _ _ (Answers (bytes-of zs)) (evaluatedOf r) is-answer is-out) l)')
     return closed(w.text(8))
 
 

@@ -10,7 +10,7 @@ use Rattle.model.specs.Circuit.{circuitOf}
 use Rattle.model.specs.Tokens.{garblingOf}
 use Rattle.model.specs.Refusals.{Verdict, verdictOf}
 use Rattle.model.specs.Operations.{Answer, Made, checkedOf, garbledOf}
-use Rattle.weighhare.specs.Out.{Out, out, verdictOut, sizesOut, madeOut, callsOut, Handed}
+use Rattle.weighhare.specs.Out.{Out, out, verdictOut, sizesOut, madeOut, numberOut, Handed}
 
 -- what a run number and a scheme byte ask for is the garbling of that run by that scheme
 wanted-garbling : (c seed : List ℕ) (run scheme : ℕ) → garblingOf c seed (record { run = run; scheme = scheme }) ≡ record { circuit = circuitOf c; seed = seed; run = run; scheme = scheme }
@@ -36,9 +36,9 @@ module _ (number : ℕ) (words : List ℕ) where
     pub garble-done : (l k : ℕ) → r ≡ Garbled.Done l k → out number words ≡ out 0 (l ∷ k ∷ 0 ∷ 0 ∷ []) → Handed Is madeOut number words
     garble-done l k = of-case Is garbledOf madeOut number words r (Garbled.Done l k) is
 
-  -- an evaluation, of bytes or of gate records: either case
-  pub calls-handed : (Is : Answer ℕ → Type 0) (x : Answer ℕ) → Is x → out number words ≡ callsOut x → Handed Is callsOut number words
-  calls-handed Is x is o = record { result = x; is = is; set-out = o }
+  -- an evaluation, of bytes or of gate records, and what writes a circuit: either case
+  pub number-handed : (Is : Answer ℕ → Type 0) (x : Answer ℕ) → Is x → out number words ≡ numberOut x → Handed Is numberOut number words
+  number-handed Is x is o = record { result = x; is = is; set-out = o }
 
   -- plain, encode and decode: either case
   pub ran-handed : (Is : Verdict → Type 0) (x : Verdict) → Is x → out number words ≡ verdictOut x → Handed Is verdictOut number words

@@ -24,10 +24,10 @@ abbrev pub madeOut : Answer Made → Out
 madeOut (no v) = verdictOut v
 madeOut (yes (made length calls)) = out 0 (length ∷ calls ∷ 0 ∷ 0 ∷ [])
 
--- evaluate: "the calls of π"
-abbrev pub callsOut : Answer ℕ → Out
-callsOut (no v) = verdictOut v
-callsOut (yes calls) = out 0 (calls ∷ 0 ∷ 0 ∷ 0 ∷ [])
+-- one number. Evaluate: "the calls of π"; what writes a circuit: "its length" (02, job 1)
+abbrev pub numberOut : Answer ℕ → Out
+numberOut (no v) = verdictOut v
+numberOut (yes number) = out 0 (number ∷ 0 ∷ 0 ∷ 0 ∷ [])
 
 -- What every contract says: the caller has the operation's answer, which `Is` defines, as `outOf` sets it out.
 pub record Handed {X : Type 0} (Is : X → Type 0) (outOf : X → Out) (number : ℕ) (words : List ℕ) : Type 0 where

@@ -2,12 +2,13 @@
 ghost use mathlib.Core.Path.{_≡_};
 ghost use mathlib.Core.List.{_∷_, []};
 ghost use Rattle.model.specs.Refusals.{verdictOf};
-ghost use Rattle.model.specs.Operations.{ranOf, evaluatedOf};
-ghost use Rattle.weighhare.specs.Out.{out, verdictOut, callsOut};
+ghost use Rattle.model.specs.Operations.{ranOf, evaluatedOf, wroteOf};
+ghost use Rattle.weighhare.specs.Out.{out, verdictOut, numberOut};
 use circuit::refusal::number_and_place;
 use model::Evaluated;
 use model::Ran;
 use model::Refusal;
+use model::Wrote;
 
 // Results, and no refusal.
 pub fn results(
@@ -44,10 +45,20 @@ pub fn ran(answer: &mut [u64; 4], done: Ran) -> u8
 
 // The answer of an evaluation: the encryptions in the first word.
 pub fn evaluated(answer: &mut [u64; 4], e: Evaluated) -> u8
-    ensures { λ r. ⌜ out r (now (answer .exit)) ≡ callsOut (evaluatedOf e) ⌝ }
+    ensures { λ r. ⌜ out r (now (answer .exit)) ≡ numberOut (evaluatedOf e) ⌝ }
 {
     match e {
         Evaluated::Refused(f) => refused(answer, f),
         Evaluated::Done(calls) => results(answer, calls, 0, 0, 0),
+    }
+}
+
+// The answer of what writes a circuit: its length in the first word.
+pub fn wrote(answer: &mut [u64; 4], w: Wrote) -> u8
+    ensures { λ r. ⌜ out r (now (answer .exit)) ≡ numberOut (wroteOf w) ⌝ }
+{
+    match w {
+        Wrote::Refused(f) => refused(answer, f),
+        Wrote::Done(length) => results(answer, length, 0, 0, 0),
     }
 }

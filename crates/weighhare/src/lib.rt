@@ -2,12 +2,14 @@
 // refusal's number, 0 if none, and sets out the rest of its answer in four words.
 ghost use mathlib.Core.Path.{_≡_};
 ghost use Rattle.model.specs.Operations.{checkAnswer, PlainIs, GarbleIs, EncodeIs, EvaluateIs, EvaluateGatesIs, OutputTokensIs, DecodeIs};
-ghost use Rattle.weighhare.specs.Out.{Handed, verdictOut, sizesOut, madeOut, callsOut};
+ghost use Rattle.comparator.specs.Comparator.{ComparatorIs};
+ghost use Rattle.weighhare.specs.Out.{Handed, verdictOut, sizesOut, madeOut, numberOut};
 ghost use Rattle.weighhare.specs.Pick.{PickIs, partOut};
 use crate::answer::evaluated;
 use crate::answer::ran;
 use crate::answer::refused;
 use crate::answer::results;
+use crate::answer::wrote;
 use model::Checked;
 use model::Garbled;
 use model::Gate;
@@ -88,7 +90,7 @@ pub extern "C" fn weighhare_evaluate(
     wires: &mut [u8],
     answer: &mut [u64; 4],
 ) -> u8
-    ensures { λ r. ⌜ Handed (λ x. EvaluateIs (now (circuit .entry)) (now (tokens .entry)) (now (material .entry)) (now (wires .entry)) x (now (wires .exit))) callsOut r (now (answer .exit)) ⌝ }
+    ensures { λ r. ⌜ Handed (λ x. EvaluateIs (now (circuit .entry)) (now (tokens .entry)) (now (material .entry)) (now (wires .entry)) x (now (wires .exit))) numberOut r (now (answer .exit)) ⌝ }
 {
     let e = evaluate::evaluate(circuit, tokens, material, wires);
     evaluated(answer, e)
@@ -105,7 +107,7 @@ pub extern "C" fn weighhare_evaluate_gates(
     wires: &mut [u8],
     answer: &mut [u64; 4],
 ) -> u8
-    ensures { λ r. ⌜ Handed (λ x. EvaluateGatesIs n m (now (gates .entry)) (now (tokens .entry)) (now (material .entry)) (now (wires .entry)) x (now (wires .exit))) callsOut r (now (answer .exit)) ⌝ }
+    ensures { λ r. ⌜ Handed (λ x. EvaluateGatesIs n m (now (gates .entry)) (now (tokens .entry)) (now (material .entry)) (now (wires .entry)) x (now (wires .exit))) numberOut r (now (answer .exit)) ⌝ }
 {
     let e = evaluate::list::evaluate_gates(n, m, gates, tokens, material, wires);
     evaluated(answer, e)
@@ -155,4 +157,13 @@ pub extern "C" fn weighhare_pick(
         Ran::Refused(f) => refused(answer, f),
         Ran::Done => results(answer, bit as usize, 16 * (wire as usize - 1), 16, 0),
     }
+}
+
+// Comparator: the circuit for a width; its length.
+#[no_mangle]
+pub extern "C" fn weighhare_comparator(width: u64, circuit: &mut [u8], answer: &mut [u64; 4]) -> u8
+    ensures { λ r. ⌜ Handed (λ x. ComparatorIs width (now (circuit .entry)) x (now (circuit .exit))) numberOut r (now (answer .exit)) ⌝ }
+{
+    let w = comparator::comparator(width as usize, circuit);
+    wrote(answer, w)
 }

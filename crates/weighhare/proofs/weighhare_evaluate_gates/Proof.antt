@@ -50,8 +50,8 @@ use Rattle.evaluate.proofs.list.evaluate_gates as gates
 use Rattle.evaluate.proofs.list.evaluate_gates.Symbol as gates-def
 use Rattle.evaluate.proofs.list.evaluate_gates.Symbol.{name as #gates}
 use Rattle.evaluate.proofs.list.evaluate_gates.Met as gates-thm
-use Rattle.weighhare.specs.Out.{out, callsOut, Handed}
-use Rattle.weighhare.proofs.HandedLaws.{calls-handed}
+use Rattle.weighhare.specs.Out.{out, numberOut, Handed}
+use Rattle.weighhare.proofs.HandedLaws.{number-handed}
 use Rattle.weighhare.proofs.answer.evaluated as evaluated
 use Rattle.weighhare.proofs.answer.evaluated.Symbol as evaluated-def
 use Rattle.weighhare.proofs.answer.evaluated.Symbol.{name as #evaluated}
@@ -151,7 +151,7 @@ module _ {M : Type 1} (𝓤 : URA M) (H : Heap 𝓤) (A : Atoms 𝓤) (W : Given
   Answers d r = EvaluateGatesIs n m (now xg) (now xi) (now xm) (now xo) r d
 
   abbrev SetOut : Evaluated → ℕ → List ℕ → Type 0
-  SetOut r number words = out number words ≡ callsOut (evaluatedOf r)
+  SetOut r number words = out number words ≡ numberOut (evaluatedOf r)
 
   -- ---- what is owned of each
   abbrev OwnG : Fml
@@ -169,7 +169,7 @@ module _ {M : Type 1} (𝓤 : URA M) (H : Heap 𝓤) (A : Atoms 𝓤) (W : Given
   abbrev OwnA : Fml
   OwnA = MutRef (named 4) κ₄ Words .own xa (va ∷ [])
 
-  exits : (number : ℕ) (v : Val) (d words : List ℕ) → Handed (Answers d) callsOut number words → length d ≡ length (now xo) → ent 𝓤 (⋆ 𝓤 H A (‵ (u8 .own number (v ∷ [])) ∷ ‵ (flft κ₀ q₀) ∷ ‵ (flft κ₁ q₁) ∷ ‵ (flft κ₂ q₂) ∷ ‵ (flft κ₃ q₃) ∷ ‵ (flft κ₄ q₄) ∷ ‵ (OwnG) ∷ ‵ (OwnI) ∷ ‵ (OwnM) ∷ ‵ (finally u8 (xo .name) d) ∷ ‵ (fres (xa .name) (Words .coded .code words)) ∷ [])) (Post v)
+  exits : (number : ℕ) (v : Val) (d words : List ℕ) → Handed (Answers d) numberOut number words → length d ≡ length (now xo) → ent 𝓤 (⋆ 𝓤 H A (‵ (u8 .own number (v ∷ [])) ∷ ‵ (flft κ₀ q₀) ∷ ‵ (flft κ₁ q₁) ∷ ‵ (flft κ₂ q₂) ∷ ‵ (flft κ₃ q₃) ∷ ‵ (flft κ₄ q₄) ∷ ‵ (OwnG) ∷ ‵ (OwnI) ∷ ‵ (OwnM) ∷ ‵ (finally u8 (xo .name) d) ∷ ‵ (fres (xa .name) (Words .coded .code words)) ∷ [])) (Post v)
   exits number v d words e l =
       qed W (‵ (u8 .own number (v ∷ [])) ∷ ‵ (flft κ₀ q₀) ∷ ‵ (flft κ₁ q₁) ∷ ‵ (flft κ₂ q₂) ∷ ‵ (flft κ₃ q₃) ∷ ‵ (flft κ₄ q₄) ∷ ‵ (OwnG) ∷ ‵ (OwnI) ∷ ‵ (OwnM) ∷ ‵ (finally u8 (xo .name) d) ∷ ‵ (fres (xa .name) (Words .coded .code words)) ∷ []) ∵
       suffices ! _ (ends-at 𝓤 H A this.ended stayed (this.clauses 𝓤 H A mem run) W bound v number (tt, (tt, (tt, (tt, (tt, (d, (words, tt))))))) (tt, (tt, (tt, (tt, (tt, (l, (tt, tt)))))))) $ says ! e $
@@ -396,7 +396,7 @@ module _ {M : Type 1} (𝓤 : URA M) (H : Heap 𝓤) (A : Atoms 𝓤) (W : Given
         forget ! 17 refl $
         keep ! (39 ∷ 40 ∷ 37 ∷ 38 ∷ 35 ∷ 36 ∷ 33 ∷ 34 ∷ 31 ∷ 32 ∷ 29 ∷ 30 ∷ 27 ∷ 28 ∷ 25 ∷ 26 ∷ 23 ∷ 24 ∷ 21 ∷ 22 ∷ 19 ∷ 20 ∷ 17 ∷ 18 ∷ 2 ∷ 9 ∷ 8 ∷ 7 ∷ 5 ∷ 0 ∷ 14 ∷ 13 ∷ 12 ∷ 10 ∷ 3 ∷ []) $
         free1 ! $ free1 ! $ free1 ! $ free1 ! $ free1 ! $ free1 ! $ free1 ! $ free1 ! $ free1 ! $ free1 ! $ free1 ! $ free1 ! $ free0 ! $
-        by ! (exits number v (bytes-of zs) (ws .0) (calls-handed _ _ (Answers (bytes-of zs)) (evaluatedOf r) is-answer is-out) l))))))))))))))))))))))))
+        by ! (exits number v (bytes-of zs) (ws .0) (number-handed _ _ (Answers (bytes-of zs)) (evaluatedOf r) is-answer is-out) l))))))))))))))))))))))))
 
 module _ {M : Type 1} (𝓤 : URA M) (H : Heap 𝓤) (A : Atoms 𝓤) (W : Given 𝓤 H A) (mem : Memory → SProp 𝓤) (run : Routine → Fun 𝓤) (𝓣 : Tables 𝓤 H)
     (known-gates : Triple 𝓤 (𝓣 .C #gates) (Gates 𝓤 H A mem run)) (known-out : Triple 𝓤 (𝓣 .C #evaluated) (Sets-out 𝓤 H A mem run)) where
