@@ -7,7 +7,7 @@ ghost use Rattle.model.specs.Bytes.{two, over, put};
 ghost use Rattle.model.specs.Circuit.{gateBytes};
 use buffer::copy_front;
 use buffer::copy_to;
-use model::Gate;
+use model::Wire;
 
 // The header of a circuit whose outputs are its last wires: mark 43 48, and n, m, q of 2 bytes each.
 pub fn write_circuit_header(circuit: &mut [u8], n: usize, m: usize, q: usize)
@@ -28,20 +28,20 @@ pub fn write_circuit_header(circuit: &mut [u8], n: usize, m: usize, q: usize)
 }
 
 // A gate's record: mark 43 47, its operands of 2 bytes each, its code.
-pub fn write_gate(circuit: &mut [u8], at: usize, g: Gate)
+pub fn write_gate(circuit: &mut [u8], at: usize, a: Wire, b: Wire, code: u8)
     requires { ⌜ at + 7 ≤ length (now circuit) ⌝ }
-    ensures { λ _. ⌜ now (circuit .exit) ≡ put (now (circuit .entry)) at (gateBytes g) ⌝ }
+    ensures { λ _. ⌜ now (circuit .exit) ≡ put (now (circuit .entry)) at (gateBytes (record { a = a; b = b; code = code })) ⌝ }
 {
-    let a = g.a.0;
-    let b = g.b.0;
+    let first = a.0;
+    let second = b.0;
     let record = [
         0x43,
         0x47,
-        (a / 256 % 256) as u8,
-        (a % 256) as u8,
-        (b / 256 % 256) as u8,
-        (b % 256) as u8,
-        g.code,
+        (first / 256 % 256) as u8,
+        (first % 256) as u8,
+        (second / 256 % 256) as u8,
+        (second % 256) as u8,
+        code,
     ];
     copy_to(&record, circuit, at);
 }

@@ -5,3 +5,4 @@ pub mod WriteLaws
 pub mod BitLaws
 pub mod CompareLaws
 pub mod ComparatorLaws
+mod Examples

@@ -10,7 +10,6 @@ ghost use Rattle.comparator.specs.Parts.{BitStart, WriteStart};
 use circuit::arguments::check_room;
 use circuit::writers::write_circuit_header;
 use circuit::writers::write_gate;
-use model::Gate;
 use model::Ran;
 use model::Refusal;
 use model::Wire;
@@ -36,42 +35,10 @@ fn write_bit(circuit: &mut [u8], at: usize, price: u16, ceiling: u16, below: u16
     ensures { λ _. ⌜ now (circuit .exit) ≡ put (now (circuit .entry)) at (recordBytes (bitGates price ceiling below)) ⌝ }
 {
     let c = Wire(below);
-    write_gate(
-        circuit,
-        at,
-        Gate {
-            a: Wire(price),
-            b: c,
-            code: 9,
-        },
-    );
-    write_gate(
-        circuit,
-        at + 7,
-        Gate {
-            a: Wire(ceiling),
-            b: c,
-            code: 6,
-        },
-    );
-    write_gate(
-        circuit,
-        at + 14,
-        Gate {
-            a: Wire(below + 1),
-            b: Wire(below + 2),
-            code: 8,
-        },
-    );
-    write_gate(
-        circuit,
-        at + 21,
-        Gate {
-            a: c,
-            b: Wire(below + 3),
-            code: 6,
-        },
-    );
+    write_gate(circuit, at, Wire(price), c, 9);
+    write_gate(circuit, at + 7, Wire(ceiling), c, 6);
+    write_gate(circuit, at + 14, Wire(below + 1), Wire(below + 2), 8);
+    write_gate(circuit, at + 21, c, Wire(below + 3), 6);
 }
 
 // The gates of all bits above the lowest.
@@ -94,15 +61,7 @@ fn write_comparator(circuit: &mut [u8], w: u16)
 {
     let width = w as usize;
     write_circuit_header(circuit, 2 * width, 1, 4 * width - 3);
-    write_gate(
-        circuit,
-        8,
-        Gate {
-            a: Wire(1),
-            b: Wire(w + 1),
-            code: 11,
-        },
-    );
+    write_gate(circuit, 8, Wire(1), Wire(w + 1), 11);
     write_bits(circuit, w);
 }
 
