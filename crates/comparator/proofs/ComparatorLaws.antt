@@ -1,9 +1,9 @@
 -- The operation: refusals 21 and 19, what they tell where neither holds, and the circuit that is left. Assumes nothing.
-use Prim.Native.Nat.{ℕ, _*_, _-_, _≤_}
+use Prim.Native.Nat.{ℕ, _*_, _-_, _≤_, _<_}
 use native.Mathlib.Omega.{arith}
 use mathlib.Core.Path.{_≡_, sym, _∙_}
 use mathlib.Core.List.{List}
-use borrow.Author.Tests.{leb-true, not-false}
+use borrow.Author.Tests.{le-leb, lt-leb, leb-true, not-false}
 use lib.ListN.{length, take}
 use lib.Seq.{take-at}
 use mir.Syntax.{w16, w64}
@@ -11,7 +11,7 @@ use mir.Val.{Fits}
 use Rattle.model.specs.declared.Ran.{Ran}
 use Rattle.model.specs.declared.Refusal.{Refusal}
 use Rattle.model.specs.Bytes.{over}
-use Rattle.model.specs.Refusals.{fine, refused, verdictOf, roomVerdict}
+use Rattle.model.specs.Refusals.{fine, refused, refuse, verdictOf, roomVerdict}
 use Rattle.model.specs.Operations.{yes, no, ranOf}
 use Rattle.model.proofs.Verdicts.{then-refused, then-done, ran-refused, ran-done, refuse-fine, and-both}
 use Rattle.model.proofs.Conditions.{room-fine}
@@ -21,6 +21,21 @@ use Rattle.comparator.specs.Parts.{WriteStart}
 use Rattle.comparator.proofs.WriteLaws.{gates-many}
 use Rattle.comparator.proofs.CompareLaws.{compares}
 
+-- ---- 21: the three cases of a width
+module _ (w : ℕ) where
+  pub width-low : w < 1 → refused 21 w ≡ widthVerdict w
+  unfolding widthVerdict refuse
+  width-low h = rw (lt-leb 1 w h)
+
+  pub width-high : 1 ≤ w → 64 < w → refused 21 w ≡ widthVerdict w
+  unfolding widthVerdict refuse
+  width-high h l = rw (le-leb 1 w h, lt-leb w 64 l)
+
+  pub width-held : 1 ≤ w → w ≤ 64 → fine ≡ widthVerdict w
+  unfolding widthVerdict refuse
+  width-held h l = rw (le-leb 1 w h, le-leb w 64 l)
+
+-- what it tells that none refuses
 record Allowed (w : ℕ) : Type 0 where
   low : 1 ≤ w
   high : w ≤ 64
@@ -31,11 +46,12 @@ width-fine w e =
     let a = and-both _ _ (not-false _ (refuse-fine _ _ _ (sym e))) in
     record { low = leb-true _ _ (a .0); high = leb-true _ _ (a .1) }
 
--- as long as 02 says
+-- ---- the circuit's length
 bytes-are : (w : ℕ) → 1 ≤ w → length (comparatorBytes w) ≡ comparatorLength w
 unfolding comparatorBytes comparatorLength
 bytes-are w h = omega (arith, bytes-long (2 * w) 1 (comparatorGates w), gates-many w h)
 
+-- ---- the operation, whose buffer is o
 module _ (w : ℕ) (o : List ℕ) where
   refused-is : (i x : ℕ) → refused i x ≡ comparatorVerdict w (length o) → ComparatorIs w o (no (refused i x)) o
   refused-is i x e =

@@ -35,10 +35,13 @@ fn write_bit(circuit: &mut [u8], at: usize, price: u16, ceiling: u16, below: u16
     ensures { λ _. ⌜ now (circuit .exit) ≡ put (now (circuit .entry)) at (recordBytes (bitGates price ceiling below)) ⌝ }
 {
     let c = Wire(below);
+    let t = Wire(below + 1);
+    let u = Wire(below + 2);
+    let v = Wire(below + 3);
     write_gate(circuit, at, Wire(price), c, 9);
     write_gate(circuit, at + 7, Wire(ceiling), c, 6);
-    write_gate(circuit, at + 14, Wire(below + 1), Wire(below + 2), 8);
-    write_gate(circuit, at + 21, c, Wire(below + 3), 6);
+    write_gate(circuit, at + 14, t, u, 8);
+    write_gate(circuit, at + 21, c, v, 6);
 }
 
 // The gates of all bits above the lowest.

@@ -15,7 +15,9 @@ loop-holds : tie.Need-loop-holds Inv-loop μ-loop
 loop-holds c = search bits-start
 
 loop-again : tie.Need-loop-again Inv-loop μ-loop
-loop-again c = search bits-turn
+loop-again c =
+    bits-turn _ _ (c .before .before .before .before .before .before .before .pre) _ _ _ (c .before .before .before .before .before .loop .inv) (c .before .before .before .before .loop-test .taken)
+    (c .before .before .write-bit .ensures)
 
 returns : tie.Need-returns Inv-loop μ-loop
 returns c = search bits-end
