@@ -7,9 +7,9 @@
  *
  * Every function of the archive
  *   - returns 0, or the number of the refusal (WEIGHHARE_.. below): the first condition that holds. Conditions are tried
- *     in rising number, 5 to 7 together as one search over the gates in file order, but that 25 and 26 come right after
- *     7, together as one search over the output records in file order; an operation skips what it has no argument for. A
- *     condition on several lists or buffers is tried in the order of the arguments;
+ *     in rising number, 5 to 7 together as one search over the gates in file order, but that 21 to 24 come before all
+ *     others, and 25 and 26 right after 7, together as one search over the output records in file order; an operation
+ *     skips what it has no argument for. A condition on several lists or buffers is tried in the order of the arguments;
  *   - sets all four words of `answer`. If it refuses, answer[0] is the refusal's place; else the words are its results.
  *     Words that are not used are 0;
  *   - leaves every output buffer as it was if it refuses, and else writes only the bytes named, at the front;
@@ -55,9 +55,10 @@
  * 0.5.0 moved the arguments of weighhare_garble: an object compiled with an older header must be compiled anew before it
  * is linked with this archive. No linker notices where it was not. 0.6.0 adds scheme 4, which was refusal 14 before; no
  * function's arguments moved. 0.7.0 adds circuits whose outputs are named, with the mark 43 49, which was refusal 2
- * before, refusals 25 and 26, and weighhare_output_tokens; no function's arguments moved.
+ * before, refusals 25 and 26, and weighhare_output_tokens; no function's arguments moved. 0.8.0 adds weighhare_comparator
+ * and refusal 21, which it alone gives, and the numbers 22 to 24, which nothing gives yet; no function's arguments moved.
  */
-#define WEIGHHARE_VERSION "0.7.0"
+#define WEIGHHARE_VERSION "0.8.0"
 
 #include <stddef.h>
 #include <stdint.h>
@@ -68,7 +69,8 @@ extern "C" {
 
 /*
  * What the functions return: 0, or why they refused. In brackets: what the refusal's place is, which answer[0] gives, and
- * after a colon more about it. Marks are in hexadecimal; offsets count from 0. No function gives 21 to 24.
+ * after a colon more about it. Marks are in hexadecimal; offsets count from 0. No function gives 22 to 24 yet: they are
+ * kept for a reader of circuits that are text.
  */
 enum {
     WEIGHHARE_DONE = 0,             /* nothing refused */
@@ -93,6 +95,12 @@ enum {
     WEIGHHARE_LAST_RECORD = 18,     /* the material's last record has a wrong mark or a byte over 1 [where it starts] */
     WEIGHHARE_ROOM = 19,            /* an output buffer is too short [bytes needed: for the first such] */
     WEIGHHARE_PICK_WIRE = 20,       /* pick's wire is 0 or past the lists [the wire] */
+    WEIGHHARE_WIDTH = 21,           /* the width is not 1 to 64 [the width] */
+    WEIGHHARE_TEXT_LINE = 22,       /* a line of the text is not of its form, is missing or lacks its line feed
+                                       [the line: from 1] */
+    WEIGHHARE_TEXT_COUNTS = 23,     /* the text's gate lines are not as many as its gate count, or its wire count is not
+                                       inputs plus gates [the line: 1] */
+    WEIGHHARE_TEXT_OUTPUT = 24,     /* a gate's output is not the next wire [the line: from 1] */
     WEIGHHARE_OUTPUT_MARK = 25,     /* an output record does not begin with the mark 43 4F [the output: from 1] */
     WEIGHHARE_OUTPUT_WIRE = 26      /* an output record's wire is 0 or above n+q [the output: from 1] */
 };
@@ -265,7 +273,20 @@ uint8_t weighhare_decode(const uint8_t *circuit, size_t circuit_len, const uint8
 uint8_t weighhare_pick(const uint8_t *zeros, size_t zeros_len, const uint8_t *ones, size_t ones_len, uint16_t wire,
                        uint8_t bit, uint64_t answer[4]);
 
-/* What a function's number says, in words: for 0 "nothing refused", for 21 to 24 and from 27 "no such refusal". */
+/*
+ * Writes the circuit that compares two figures of `width` bits each, a price and a ceiling. Refusals 21, 19.
+ *
+ * There is one circuit for each width, so that whoever agrees on the width has the same bytes. It is no secret.
+ * docs/FORMATS.md has its gates. For w bits it has n = 2w, m = 1, q = 4w-3 and p = w, as weighhare_check answers.
+ *
+ *   width    w, 1 to 64
+ *   circuit  output: 28w-13 bytes, which are 1,779 for 64 bits. Inputs 1 to w are the price and w+1 to 2w the ceiling, the
+ *            lowest bit of each first; the one output is 1 exactly when price <= ceiling
+ *   answer   the circuit's length, 0, 0, 0
+ */
+uint8_t weighhare_comparator(uint64_t width, uint8_t *circuit, size_t circuit_len, uint64_t answer[4]);
+
+/* What a function's number says, in words: for 0 "nothing refused", from 27 "no such refusal". */
 static inline const char *weighhare_words(uint8_t number) {
     switch (number) {
     case WEIGHHARE_DONE: return "nothing refused";
@@ -289,6 +310,11 @@ static inline const char *weighhare_words(uint8_t number) {
     case WEIGHHARE_LAST_RECORD: return "the material's last record has a wrong mark or a byte over 1";
     case WEIGHHARE_ROOM: return "an output buffer is too short";
     case WEIGHHARE_PICK_WIRE: return "pick's wire is 0 or past the lists";
+    case WEIGHHARE_WIDTH: return "the width is not 1 to 64";
+    case WEIGHHARE_TEXT_LINE: return "a line of the text is not of its form, is missing or lacks its line feed";
+    case WEIGHHARE_TEXT_COUNTS:
+        return "the text's gate lines are not as many as its gate count, or its wire count is not inputs plus gates";
+    case WEIGHHARE_TEXT_OUTPUT: return "a gate's output is not the next wire";
     case WEIGHHARE_OUTPUT_MARK: return "an output record does not begin with the mark 43 4F";
     case WEIGHHARE_OUTPUT_WIRE: return "an output record's wire is 0 or above n+q";
     default: return "no such refusal";
@@ -297,7 +323,7 @@ static inline const char *weighhare_words(uint8_t number) {
 
 /*
  * What a refusal's place, answer[0], is, in words: for "a gate's code is neither charged nor free (its wire number: 3)".
- * For 0, for 21 to 24 and from 27, "no place".
+ * For 0 and from 27, "no place".
  */
 static inline const char *weighhare_place_words(uint8_t number) {
     switch (number) {
@@ -321,6 +347,10 @@ static inline const char *weighhare_place_words(uint8_t number) {
     case WEIGHHARE_LAST_RECORD: return "where it starts";
     case WEIGHHARE_ROOM: return "bytes needed";
     case WEIGHHARE_PICK_WIRE: return "the wire";
+    case WEIGHHARE_WIDTH: return "the width";
+    case WEIGHHARE_TEXT_LINE:
+    case WEIGHHARE_TEXT_COUNTS:
+    case WEIGHHARE_TEXT_OUTPUT: return "the line";
     case WEIGHHARE_OUTPUT_MARK:
     case WEIGHHARE_OUTPUT_WIRE: return "the output";
     default: return "no place";

@@ -7,9 +7,9 @@
 #include <stdio.h>
 #include <string.h>
 
-/* Whether a number says something: 0 that nothing refused, 1 to 20, 25 and 26 why. */
+/* Whether a number says something: 0 that nothing refused, 1 to 26 why. */
 static int is_told(unsigned number) {
-    return number <= WEIGHHARE_PICK_WIRE || number == WEIGHHARE_OUTPUT_MARK || number == WEIGHHARE_OUTPUT_WIRE;
+    return number <= WEIGHHARE_OUTPUT_WIRE;
 }
 
 /* Each of these has words of its own, and each but 0 a place; no other number has either. */
