@@ -14,6 +14,10 @@
 //! order. With 43 49 they are the wires that m output records name, after the gates, in the order of the records: inputs,
 //! gates' wires, in any order, a wire more than once too. [`output_tokens`] gathers their tokens from those of all wires.
 //!
+//! Who wants to compare two figures needs to draw no circuit: [`comparator`] writes it for their number of bits,
+//! [`figure_values`] turns a figure into the values of its inputs, and [`values_figure`] turns values into a figure.
+//! `cargo run --example compare -- 1200 1500` goes from two figures to the answer.
+//!
 //! # What is secret
 //!
 //! What the caller must do about it, since nothing here does:
@@ -70,9 +74,11 @@
 #[cfg(not(all(target_arch = "x86_64", target_os = "linux")))]
 compile_error!("libweighhare.a is for x86-64 Linux");
 
+mod figures;
 mod library;
 mod refusal;
 
+pub use figures::{figure_values, values_figure, FigureTooLarge};
 pub use refusal::Refusal;
 
 /// A circuit's sizes. Limits: n is 2 to 4,096, m is 1 to q, with the mark 43 49 1 to n+q, q is at least 1, and n+q is at most
@@ -390,6 +396,38 @@ pub fn pick<'a>(zeros: &'a [u8], ones: &'a [u8], wire: u16, bit: u8) -> Result<&
     let [list, start, length, _] = results(number, answer)?;
     let list = if list == 0 { zeros } else { ones };
     Ok(&list[start..start + length])
+}
+
+/// Writes the circuit that compares two figures of `width` bits each, a price and a ceiling, and answers its length.
+/// Refusals 21, 19.
+///
+/// `width` is 1 to 64. Writes 28w-13 bytes to `circuit`, where w is the width: 1,779 for 64 bits. Inputs 1 to w are the price
+/// and w+1 to 2w the ceiling, the lowest bit of each first, as [`figure_values`] writes them; the one output is 1 exactly when
+/// price <= ceiling. n is 2w, m 1, q 4w-3 and p w.
+///
+/// There is one circuit for each width, so that whoever agrees on the width has the same bytes. It is no secret.
+///
+/// ```
+/// let mut circuit = [0; 28 * 16 - 13];
+/// let length = weighhare::comparator(16, &mut circuit)?;
+/// assert_eq!(length, circuit.len());
+///
+/// // The plain circuit's last wire is its output.
+/// let mut values = [0; 32];
+/// weighhare::figure_values(1200, &mut values[..16])?;
+/// weighhare::figure_values(1500, &mut values[16..])?;
+/// let mut wires = [0; 6 * 16 - 3];
+/// weighhare::plain(&circuit, &values, &mut wires)?;
+/// assert_eq!(wires.last(), Some(&1));
+/// # Ok::<(), Box<dyn std::error::Error>>(())
+/// ```
+pub fn comparator(width: usize, circuit: &mut [u8]) -> Result<usize, Refusal> {
+    let mut answer = [0; 4];
+    // SAFETY: the pointer and the length are a slice's; `circuit` and `answer` are borrowed alone.
+    let number =
+        unsafe { library::weighhare_comparator(width as u64, circuit.as_mut_ptr(), circuit.len(), &mut answer) };
+    let [length, ..] = results(number, answer)?;
+    Ok(length)
 }
 
 /// The four words of an answer if nothing refused, else the refusal.

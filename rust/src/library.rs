@@ -106,4 +106,11 @@ extern "C" {
         bit: u8,
         answer: *mut Answer,
     ) -> u8;
+
+    pub fn weighhare_comparator(
+        width: u64, // any: refusal 21 where it is not 1 to 64
+        circuit: *mut u8,
+        circuit_len: usize,
+        answer: *mut Answer,
+    ) -> u8;
 }

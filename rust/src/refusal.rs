@@ -5,9 +5,12 @@ use std::fmt;
 
 /// Why an operation refused: the first condition that holds, with its place.
 ///
-/// Conditions are tried in rising number, 5 to 7 together as one search over the gates in file order, but that 25 and 26
-/// come right after 7, together as one search over the output records in file order; an operation skips what it has no
-/// argument for. A condition on several lists or buffers is tried in the order of the arguments.
+/// Conditions are tried in rising number, 5 to 7 together as one search over the gates in file order, but that 21 to 24
+/// come before all others, and 25 and 26 right after 7, together as one search over the output records in file order; an
+/// operation skips what it has no argument for. A condition on several lists or buffers is tried in the order of the
+/// arguments.
+///
+/// No operation gives 22 to 24 yet: they are kept for a reader of circuits that are text.
 ///
 /// A refusal leaves every buffer as it was. Its `Display` says in words what is wrong and where.
 #[derive(Clone, Copy, Debug, PartialEq, Eq, Hash)]
@@ -101,6 +104,24 @@ pub enum Refusal {
         /// The wire.
         wire: u16,
     },
+    /// 21: the width is not 1 to 64.
+    Width {
+        /// The width.
+        width: usize,
+    },
+    /// 22: a line of the text is not of its form, is missing or lacks its line feed.
+    TextLine {
+        /// The line, from 1.
+        line: usize,
+    },
+    /// 23: the text's gate lines are not as many as its gate count, or its wire count is not inputs plus gates. Its place
+    /// is 1, the line that has the counts.
+    TextCounts,
+    /// 24: a gate's output is not the next wire.
+    TextOutput {
+        /// The line, from 1.
+        line: usize,
+    },
     /// 25: an output record does not begin with the mark 43 4F.
     OutputMark {
         /// The output, from 1.
@@ -114,12 +135,13 @@ pub enum Refusal {
 }
 
 impl Refusal {
-    /// The refusal's number: 1 to 20, 25 or 26. Nothing gives 21 to 24.
+    /// The refusal's number: 1 to 26. Nothing gives 22 to 24 yet.
     pub fn number(self) -> u8 {
         self.number_and_place().0
     }
 
-    /// The refusal's place: a length, a wire number, an output's number, an index or an offset, by its number.
+    /// The refusal's place: a length, a wire number, an output's number, an index, an offset, a width or a line, by its
+    /// number.
     pub fn place(self) -> usize {
         self.number_and_place().1
     }
@@ -146,28 +168,27 @@ impl Refusal {
             Self::LastRecord { start } => (18, start),
             Self::Room { needed } => (19, needed),
             Self::PickWire { wire } => (20, wire.into()),
+            Self::Width { width } => (21, width),
+            Self::TextLine { line } => (22, line),
+            Self::TextCounts => (23, 1),
+            Self::TextOutput { line } => (24, line),
             Self::OutputMark { output } => (25, output.into()),
             Self::OutputWire { output } => (26, output.into()),
         }
     }
 
     /// The refusal of that number at that place, if there is one: a wire number and an output's have 16 bits, a scheme 8,
-    /// and 2, 3, 13 and 15 have one place each.
+    /// and 2, 3, 13, 15 and 23 have one place each.
     pub fn from_number(number: u8, place: usize) -> Option<Self> {
+        let short = u16::try_from(place).ok();
         let refusal = match number {
             1 => Self::CircuitShort { length: place },
             2 => Self::CircuitMark,
             3 => Self::Limits,
             4 => Self::CircuitLength { length: place },
-            5 => Self::GateMark {
-                wire: place.try_into().ok()?,
-            },
-            6 => Self::Operands {
-                wire: place.try_into().ok()?,
-            },
-            7 => Self::Code {
-                wire: place.try_into().ok()?,
-            },
+            5 => Self::GateMark { wire: short? },
+            6 => Self::Operands { wire: short? },
+            7 => Self::Code { wire: short? },
             8 => Self::SeedLength { length: place },
             9 => Self::ValuesLength { length: place },
             10 => Self::Value { index: place },
@@ -179,20 +200,16 @@ impl Refusal {
             },
             15 => Self::MaterialSizes,
             16 => Self::MaterialLength { length: place },
-            17 => Self::RowRecord {
-                wire: place.try_into().ok()?,
-            },
+            17 => Self::RowRecord { wire: short? },
             18 => Self::LastRecord { start: place },
             19 => Self::Room { needed: place },
-            20 => Self::PickWire {
-                wire: place.try_into().ok()?,
-            },
-            25 => Self::OutputMark {
-                output: place.try_into().ok()?,
-            },
-            26 => Self::OutputWire {
-                output: place.try_into().ok()?,
-            },
+            20 => Self::PickWire { wire: short? },
+            21 => Self::Width { width: place },
+            22 => Self::TextLine { line: place },
+            23 => Self::TextCounts,
+            24 => Self::TextOutput { line: place },
+            25 => Self::OutputMark { output: short? },
+            26 => Self::OutputWire { output: short? },
             _ => return None,
         };
         (refusal.place() == place).then_some(refusal)
@@ -232,11 +249,13 @@ impl fmt::Display for Refusal {
             Self::MaterialSizes => write!(f, "the material's n, m or q, at byte 3, is not the circuit's"),
             Self::MaterialLength { length } => write!(f, "the material has {}, {NOT_ITS_LENGTH}", Bytes(length)),
             Self::RowRecord { wire } => write!(f, "the row record due for wire {wire} has a wrong mark or wire number"),
-            Self::LastRecord { start } => {
-                write!(f, "the last record, at byte {start}, has a wrong mark or a byte over 1")
-            }
+            Self::LastRecord { start } => write!(f, "the last record, at byte {start}, {NOT_LAST}"),
             Self::Room { needed } => write!(f, "an output buffer is too short, it needs {}", Bytes(needed)),
             Self::PickWire { wire } => write!(f, "wire {wire} is not in the token lists"),
+            Self::Width { width } => write!(f, "the width is {width}, it must be 1 to 64"),
+            Self::TextLine { line } => write!(f, "line {line} of the text {NOT_A_LINE}"),
+            Self::TextCounts => write!(f, "the text's counts, on line 1, are not its own: {COUNTS}"),
+            Self::TextOutput { line } => write!(f, "the gate on line {line} of the text {NOT_NEXT}"),
             Self::OutputMark { output } => {
                 write!(f, "the record of output {output} does not begin with the mark 43 4F")
             }
@@ -249,6 +268,10 @@ const LIMITS: &str = "n from 2 to 4096, m from 1 to q, or to n+q with the mark 4
 const NOT_WHOLE: &str = "not 8 and 7 for each gate, and with the mark 43 49 another 4 for each output";
 const CODES: &str = "1, 2, 4, 7, 8, 11, 13, 14 (charged), 3, 5, 6, 9, 10, 12 (free)";
 const NOT_ITS_LENGTH: &str = "which is not the length for its scheme and the circuit";
+const NOT_LAST: &str = "has a wrong mark or a byte over 1";
+const NOT_A_LINE: &str = "is not of its form, is missing or lacks its line feed";
+const COUNTS: &str = "as many gates as gate lines, as many wires as inputs and gates";
+const NOT_NEXT: &str = "has an output that is not the next wire";
 
 impl Error for Refusal {}
 
@@ -257,7 +280,7 @@ mod tests {
     use super::Refusal;
 
     /// What is said of each refusal, by its number, at a place that it can have.
-    const SAID: [(u8, usize, &str); 22] = [
+    const SAID: [(u8, usize, &str); 26] = [
         (1, 7, "the circuit has 7 bytes, a header needs 8"),
         (2, 0, "the circuit does not begin with the mark 43 48 or 43 49"),
         (
@@ -296,6 +319,23 @@ mod tests {
         (18, 77, "the last record, at byte 77, has a wrong mark or a byte over 1"),
         (19, 48, "an output buffer is too short, it needs 48 bytes"),
         (20, 0, "wire 0 is not in the token lists"),
+        (21, 65, "the width is 65, it must be 1 to 64"),
+        (
+            22,
+            4,
+            "line 4 of the text is not of its form, is missing or lacks its line feed",
+        ),
+        (
+            23,
+            1,
+            "the text's counts, on line 1, are not its own: \
+             as many gates as gate lines, as many wires as inputs and gates",
+        ),
+        (
+            24,
+            5,
+            "the gate on line 5 of the text has an output that is not the next wire",
+        ),
         (25, 2, "the record of output 2 does not begin with the mark 43 4F"),
         (26, 3, "the record of output 3 has a wire that is 0 or above n+q"),
     ];
@@ -323,7 +363,7 @@ mod tests {
                 assert_eq!(Refusal::from_number(number, place), None, "{number} is none");
             }
         }
-        for (number, place) in [(2, 1), (3, 0), (13, 1), (15, 2)] {
+        for (number, place) in [(2, 1), (3, 0), (13, 1), (15, 2), (23, 0), (23, 2)] {
             assert_eq!(Refusal::from_number(number, place), None, "{number} has one place");
         }
         for number in [5, 6, 7, 17, 20] {
@@ -333,5 +373,9 @@ mod tests {
             assert_eq!(Refusal::from_number(number, 65_536), None, "an output has 16 bits");
         }
         assert_eq!(Refusal::from_number(14, 256), None, "a scheme has 8 bits");
+        for width in [0, usize::MAX] {
+            let refusal = Refusal::from_number(21, width);
+            assert_eq!(refusal, Some(Refusal::Width { width }), "every width has a place");
+        }
     }
 }

@@ -23,21 +23,21 @@ fn one_list_of_refusals() {
         .split("WEIGHHARE_")
         .skip(1)
         .collect();
-    let numbers = (1..=20).chain([25, 26]);
-    assert_eq!(refusals.len(), numbers.clone().count());
-    for (number, line) in numbers.zip(refusals) {
+    assert_eq!(refusals.len(), 26);
+    for (number, line) in (1..).zip(refusals) {
         let (name, rest) = line.split_once(" = ").expect("a number");
         let written: String = rest.chars().take_while(char::is_ascii_digit).collect();
         assert_eq!(written, number.to_string(), "{name}");
 
-        // 2, 3, 13 and 15 have one place each.
-        let refusal = [0, 2, 3].iter().find_map(|place| Refusal::from_number(number, *place));
+        // 2, 3, 13, 15 and 23 have one place each.
+        let refusal = (0..=3).find_map(|place| Refusal::from_number(number, place));
         let named = format!("{:?}", refusal.expect("a refusal"));
         let named = named.split(' ').next().expect("a name");
         assert!(named.eq_ignore_ascii_case(&name.replace('_', "")), "{named}, {name}");
 
-        let words = between(rest, "/* ", " [");
-        let line = format!("/// {number}: {words}");
+        // The header may have them on two lines.
+        let words: Vec<_> = between(rest, "/* ", " [").split_whitespace().collect();
+        let line = format!("/// {number}: {}", words.join(" "));
         assert!(REFUSALS.contains(&line), "no {line}");
     }
 }
