@@ -32,6 +32,8 @@ uint8_t enter(const struct call *call, const struct lent *in, const struct lent 
         return weighhare_decode(LIST(in[0]), LIST(in[1]), LIST(in[2]), LIST(out[0]), answer);
     case PICK:
         return weighhare_pick(LIST(in[0]), LIST(in[1]), call->wire, call->bit, answer);
+    case COMPARATOR:
+        return weighhare_comparator(call->width, LIST(out[0]), answer);
     default:
         abort();
     }

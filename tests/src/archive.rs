@@ -118,6 +118,8 @@ unsafe fn enter(call: &Call, inputs: &[List], outs: &[List], answer: &mut librar
             library::weighhare_decode(c, cl, t, tl, m, ml, b, bl, answer),
         (Operation::Pick, &[(z, zl), (o, ol)], []) =>
             library::weighhare_pick(z, zl, o, ol, call.wire, call.bit, answer),
+        (Operation::Comparator, [], &[(c, cl)]) =>
+            library::weighhare_comparator(call.width, c, cl, answer),
         _ => panic!("the archive has no {}", interface::name(call.operation)),
     } }
 }

@@ -2,10 +2,11 @@
 //! that can run a call can be compared with this one.
 
 use crate::circuit::{Circuit, Gate, Sizes};
+use crate::comparator::comparator;
 use crate::operations as op;
 use crate::refused::Refused;
 
-/// An operation (01, Operations; 02, job 8).
+/// An operation (01, Operations; 02, jobs 1 and 8).
 #[derive(Clone, Copy, Debug, Default, PartialEq, Eq, PartialOrd, Ord)]
 pub enum Operation {
     /// Check.
@@ -27,11 +28,13 @@ pub enum Operation {
     Decode,
     /// Pick.
     Pick,
+    /// The comparator of a width.
+    Comparator,
 }
 
 impl Operation {
     /// All operations.
-    pub const ALL: [Operation; 9] = [
+    pub const ALL: [Operation; 10] = [
         Operation::Check,
         Operation::Plain,
         Operation::Garble,
@@ -41,15 +44,19 @@ impl Operation {
         Operation::OutputTokens,
         Operation::Decode,
         Operation::Pick,
+        Operation::Comparator,
     ];
 
     /// Whether it takes a circuit's bytes: then the circuit may have either mark.
     pub fn takes_bytes(self) -> bool {
-        !matches!(self, Operation::EvaluateGates | Operation::Pick)
+        !matches!(
+            self,
+            Operation::EvaluateGates | Operation::Pick | Operation::Comparator
+        )
     }
 
     /// The numbers of the refusals that the operation has arguments for, in the order in which they are
-    /// tried: 25 and 26 come right after 7.
+    /// tried: 25 and 26 come right after 7, and 21 comes first of all.
     pub fn refusals(self) -> &'static [u8] {
         match self {
             Operation::Check => &[1, 2, 3, 4, 5, 6, 7, 25, 26],
@@ -62,10 +69,11 @@ impl Operation {
             Operation::EvaluateGates => &[3, 6, 7, 11, 12, 13, 14, 15, 16, 17, 18, 19],
             Operation::OutputTokens => &[1, 2, 3, 4, 5, 6, 7, 25, 26, 11, 19],
             Operation::Pick => &[10, 11, 20],
+            Operation::Comparator => &[21, 19],
         }
     }
 
-    /// The same without 25 and 26: those that 01 has. The stored files of cases that were there before
+    /// The same without 21, 25 and 26: those that 01 has. The stored files of cases that were there before
     /// 02's job 8 are drawn from these.
     pub fn refusals_of_01(self) -> Vec<u8> {
         let numbers = self.refusals().iter().copied();
@@ -85,7 +93,7 @@ impl Operation {
 pub struct Call {
     /// The operation called.
     pub operation: Operation,
-    /// Circuit bytes (all but evaluate's list form and pick).
+    /// Circuit bytes (all but evaluate's list form, pick and the comparator, which writes them).
     pub circuit: Vec<u8>,
     /// n of the list form.
     pub n: u16,
@@ -113,6 +121,8 @@ pub struct Call {
     pub wire: u16,
     /// Pick's bit.
     pub bit: u8,
+    /// The comparator's width.
+    pub width: u64,
     /// The lengths of the output buffers, in 01's order.
     pub lens: Vec<usize>,
     /// What every byte of the output buffers is before the call.
@@ -122,8 +132,8 @@ pub struct Call {
 /// What came of a call.
 #[derive(Clone, Debug, PartialEq, Eq)]
 pub struct Outcome {
-    /// The numbers returned (check: n, m, q, p; garble: length, calls; evaluate: calls; the others
-    /// none), or the refusal.
+    /// The numbers returned (check: n, m, q, p; garble: length, calls; evaluate: calls; the comparator:
+    /// length; the others none), or the refusal.
     pub answer: Result<Vec<u64>, Refused>,
     /// The whole output buffers after the call; for pick, the part.
     pub buffers: Vec<Vec<u8>>,
@@ -217,6 +227,7 @@ impl Call {
             }
             Operation::OutputTokens => op::output_tokens(circuit, tokens, out).map(nothing),
             Operation::Decode => op::decode(circuit, tokens, material, out).map(nothing),
+            Operation::Comparator => comparator(self.width, out).map(|length| vec![length]),
             Operation::Check | Operation::Garble | Operation::Pick => {
                 unreachable!("run sends these elsewhere")
             }

@@ -10,6 +10,7 @@ pub mod outputs;
 use crate::block::{Block, Colour, BLOCK};
 use crate::call::{Call, Operation};
 use crate::circuit::{to_bytes, Circuit, Gate, Sizes};
+use crate::comparator;
 use crate::material::{self, Material};
 use crate::operations;
 use crate::random::Random;
@@ -220,6 +221,7 @@ pub fn call_on(random: &mut Random, operation: Operation, bytes: &[u8]) -> Call 
         Operation::OutputTokens => call.tokens = tokens(random, circuit.sizes().wires()),
         Operation::Decode => add_material(random, &mut call, &circuit, m),
         Operation::Pick => add_lists(random, &mut call, n),
+        Operation::Comparator => call.width = random.between(1, 64) as u64,
     }
     let needed = room(&call).expect("an accepted circuit");
     call.lens = needed.iter().map(|len| len + random.below(40)).collect();
@@ -234,7 +236,7 @@ fn add_circuit(call: &mut Call, circuit: &Circuit) {
             (call.n, call.m) = (n as u16, m as u16);
             call.gates = circuit.gates().map(|(_, gate)| gate).collect();
         }
-        Operation::Pick => {}
+        Operation::Pick | Operation::Comparator => {}
         _ => call.circuit = circuit.to_bytes(),
     }
 }
@@ -281,6 +283,32 @@ pub fn any_scheme(random: &mut Random, call: &mut Call) {
     }
 }
 
+/// Widths of a comparator that are refused (02, job 1): on both sides of the limits, and such whose low 8,
+/// 16 or 32 bits are a width.
+pub const BAD_WIDTHS: [u64; 12] = [
+    0,
+    65,
+    66,
+    128,
+    255,
+    256,
+    256 + 64,
+    (1 << 16) + 1,
+    (1 << 32) + 8,
+    1 << 63,
+    u64::MAX - 63,
+    u64::MAX,
+];
+
+/// A number of 64 bits, of 33, of 9, of 7 or of 6: of the last two most are widths.
+pub fn any_width(random: &mut Random) -> u64 {
+    let word = random
+        .bytes(8)
+        .into_iter()
+        .fold(0, |word, byte| word << 8 | u64::from(byte));
+    word >> random.one_of(&[0, 31, 55, 57, 58])
+}
+
 /// Pick's two lists, wire and bit.
 fn add_lists(random: &mut Random, call: &mut Call, count: usize) {
     (call.zero, call.one) = (tokens(random, count), tokens(random, count));
@@ -288,11 +316,13 @@ fn add_lists(random: &mut Random, call: &mut Call, count: usize) {
     call.bit = random.below(2) as u8;
 }
 
-/// The bytes that the call's output buffers need, in 01's order; nothing where its circuit or its
-/// scheme is refused.
+/// The bytes that the call's output buffers need, in 01's order; nothing where its circuit, its scheme or
+/// its width is refused.
 pub fn room(call: &Call) -> Option<Vec<usize>> {
-    if matches!(call.operation, Operation::Check | Operation::Pick) {
-        return Some(Vec::new());
+    match call.operation {
+        Operation::Check | Operation::Pick => return Some(Vec::new()),
+        Operation::Comparator => return Some(vec![comparator::length(call.width)?]),
+        _ => {}
     }
     let sizes = call.read_circuit().ok()?.sizes();
     let Sizes { n, m, .. } = sizes;

@@ -32,6 +32,7 @@ pub fn name(operation: Operation) -> &'static str {
         Operation::OutputTokens => "output_tokens",
         Operation::Decode => "decode",
         Operation::Pick => "pick",
+        Operation::Comparator => "comparator",
     }
 }
 
@@ -50,6 +51,7 @@ pub fn inputs(call: &Call) -> Vec<(&'static str, Vec<u8>)> {
         Operation::EvaluateGates => vec![("gates", &gates), tokens, material],
         Operation::OutputTokens => vec![circuit, ("wires", &call.tokens)],
         Operation::Pick => vec![zero, one],
+        Operation::Comparator => vec![],
     };
     let owned = |(name, list): (&'static str, &Vec<u8>)| (name, list.clone());
     lists.into_iter().map(owned).collect()

@@ -93,6 +93,7 @@ fn arguments(call: &Call) -> Vec<Vec<u8>> {
             let asked = [&call.wire.to_be_bytes()[..], &[call.bit]].concat();
             vec![zero, one, asked]
         }
+        Operation::Comparator => panic!("no file has lines of comparators"),
     }
 }
 

@@ -6,6 +6,7 @@ use crate::block::Colour;
 use crate::call::{Call, Operation};
 use crate::cases::{self, Asked};
 use crate::chained;
+use crate::compared;
 use crate::evaluator;
 use crate::generate::{self, damage};
 use crate::large::{self, Rule};
@@ -117,6 +118,7 @@ pub fn files() -> Vec<File> {
     }
     add("chain-named", named::chains());
     add("garble-named", named::garblings());
+    add("chain-comparator", compared::chains());
     files
 }
 

@@ -1,5 +1,6 @@
-//! The circuits of ../examples: what the program prints of them, what the two comparators compute, and which
-//! bits named outputs give, by the second implementation and by the archive.
+//! The circuits of ../examples: what the program prints of them, what the two comparators of 8 bits compute,
+//! that the one is what the comparator writes, as are those of more bits, and which bits named outputs give, by
+//! the second implementation and by the archive.
 
 #[path = "../src/archive.rs"]
 mod archive;
@@ -54,7 +55,7 @@ fn call(operation: Operation, circuit: &[u8], lens: &[usize]) -> Call {
 /// With n, m, q, p: lengths of 11+m+p(4+16r) bytes, r = 4, 3, 2.
 #[test]
 fn what_the_program_prints_of_them() {
-    let printed = |name| program::output(&example(name));
+    let printed = |name: &str| program::output(&example(name));
     assert_eq!(printed("and"), "2 1 1 1\n80 64 48\n");
     assert_eq!(printed("refused-code"), "refused 7 3\n");
     assert_eq!(printed("named-outputs"), "2 3 1 1\n82 66 50\n");
@@ -62,6 +63,26 @@ fn what_the_program_prints_of_them() {
     assert_eq!(at_most, "16 1 29 8\n556 428 300\n");
     let over = printed("price-over-ceiling-8");
     assert_eq!(over, "16 1 30 8\n556 428 300\n");
+    for (width, due) in [
+        (16, "32 1 61 16\n1100 844 588\n"),
+        (32, "64 1 125 32\n2188 1676 1164\n"),
+        (64, "128 1 253 64\n4364 3340 2316\n"),
+    ] {
+        assert_eq!(printed(&format!("price-at-most-ceiling-{width}")), due);
+    }
+}
+
+/// 02, job 1: the circuits of these widths, by both.
+#[test]
+fn the_comparator_writes_those_of_its_widths() {
+    for (width, length) in [(8, 211), (16, 435), (32, 883), (64, 1779)] {
+        let due = example(&format!("price-at-most-ceiling-{width}"));
+        assert_eq!(due.len(), length);
+        let mut call = call(Operation::Comparator, &[], &[length]);
+        call.width = width;
+        assert_eq!(call.run().buffers, [&due[..]], "width {width}");
+        assert_eq!(by_archive(&call), [due], "width {width}");
+    }
 }
 
 #[test]

@@ -56,7 +56,7 @@ fn write_case(file: &mut impl Write, call: &Call) -> io::Result<()> {
     for number in [call.wire, call.n, call.m].into_iter().chain(counts) {
         file.write_all(&number.to_ne_bytes())?;
     }
-    for word in [call.run].into_iter().chain(expected.words) {
+    for word in [call.run, call.width].into_iter().chain(expected.words) {
         file.write_all(&word.to_ne_bytes())?;
     }
     for (_, bytes) in &inputs {

@@ -1,9 +1,9 @@
-//! Calls damaged so that a chosen condition holds (01, Turned down, by number; 02, job 8).
+//! Calls damaged so that a chosen condition holds (01, Turned down, by number; 02, jobs 1 and 8).
 
 use super::outputs::any_outputs;
 use super::{
-    add_run, any_scheme, call, call_on, room, small_circuit, use_one_operand, CHARGED, FREE,
-    ONE_OPERAND,
+    add_run, any_scheme, any_width, call, call_on, room, small_circuit, use_one_operand,
+    BAD_WIDTHS, CHARGED, FREE, ONE_OPERAND,
 };
 use crate::block::BLOCK;
 use crate::call::{Call, Operation};
@@ -16,7 +16,10 @@ use crate::random::Random;
 /// gates 01's codes, and a sound scheme is one of 01's.
 pub fn damaged_call(random: &mut Random, operation: Operation, numbers: &[u8]) -> Call {
     let is_of_01 = numbers.iter().all(|&number| number <= 20);
-    assert!(is_of_01, "no output record to spoil with the mark 43 48");
+    assert!(
+        is_of_01,
+        "no output record to spoil with the mark 43 48, and no width"
+    );
     damaged_from(random, operation, numbers, call)
 }
 
@@ -170,6 +173,7 @@ pub fn damage(random: &mut Random, call: &mut Call, number: u8) -> bool {
         18 => spoil_last_record(random, call),
         19 => shorten_buffer(random, call),
         20 => spoil_wire(random, call),
+        21 => spoil_width(random, call),
         25 => spoil_output_mark(random, call),
         26 => spoil_output_wire(random, call),
         _ => false,
@@ -456,5 +460,15 @@ fn spoil_wire(random: &mut Random, call: &mut Call) -> bool {
     let past = call.zero.len() / BLOCK + 1;
     let far = random.between(past, 65_535);
     call.wire = random.one_of(&[0, past, far]) as u16;
+    true
+}
+
+/// A width that is not 1 to 64: one of the list, or any.
+fn spoil_width(random: &mut Random, call: &mut Call) -> bool {
+    let any = any_width(random);
+    call.width = match any {
+        0 | 65.. if random.chance(30) => any,
+        _ => random.one_of(&BAD_WIDTHS),
+    };
     true
 }

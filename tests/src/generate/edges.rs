@@ -2,7 +2,7 @@
 //! each of its limits, one step at a time. Which refusal is due is not known here.
 
 use super::outputs::with_outputs;
-use super::{add_run, call_on, circuit, rekey, room, with_one_operand};
+use super::{add_run, call_on, circuit, rekey, room, with_one_operand, BAD_WIDTHS};
 use crate::block::BLOCK;
 use crate::call::{Call, Operation};
 use crate::circuit::{Circuit, Gate, Mark};
@@ -78,10 +78,11 @@ fn around(base: Call) -> Vec<Edge> {
     match operation {
         Operation::Pick => edges.of_pick(),
         Operation::EvaluateGates => edges.of_gates(),
+        Operation::Comparator => edges.of_width(),
         _ => edges.of_circuit(),
     }
     match operation {
-        Operation::Check | Operation::Pick => {}
+        Operation::Check | Operation::Pick | Operation::Comparator => {}
         Operation::Plain => edges.of_values(),
         Operation::Garble => edges.of_seed_and_scheme(),
         Operation::Encode => {
@@ -274,6 +275,19 @@ impl Edges {
                 call.zero.resize(zero, 1);
                 call.one.resize(one, 2);
             });
+        }
+    }
+
+    /// Every width up to past its limit, and some that are far past it, with no room, with a byte less than
+    /// is needed, with just that, and with much room.
+    fn of_width(&mut self) {
+        for width in (0..=70).chain(BAD_WIDTHS) {
+            let of_width =
+                |len: usize| move |call: &mut Call| (call.width, call.lens) = (width, vec![len]);
+            let needed = 28 * width.clamp(1, 64) as usize - 13;
+            for len in [0, needed - 1, needed, 2000] {
+                self.add(format!("width {width}, {len} bytes"), of_width(len));
+            }
         }
     }
 }

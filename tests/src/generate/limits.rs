@@ -62,8 +62,12 @@ fn shaped_by_name(random: &mut Random, shape: usize) -> Option<Vec<u8>> {
 }
 
 /// The calls of an operation on the shape of that number, each of garble in a run of its own; none
-/// past the last. An operation that takes a circuit's bytes has those with named outputs too.
+/// past the last. An operation that takes a circuit's bytes has those with named outputs too. The comparator
+/// takes no circuit, and has calls for the first shape alone.
 pub fn calls(random: &mut Random, operation: Operation, shape: usize) -> Option<Vec<Edge>> {
+    if operation == Operation::Comparator && shape > 0 {
+        return None;
+    }
     let bytes = match shape.checked_sub(SHAPES.len()) {
         None => shaped(random, shape)?,
         Some(shape) if operation.takes_bytes() => shaped_by_name(random, shape)?,
@@ -82,6 +86,7 @@ pub fn calls(random: &mut Random, operation: Operation, shape: usize) -> Option<
     calls.of_room();
     match operation {
         Operation::Pick => calls.of_pick(),
+        Operation::Comparator => calls.of_width(),
         Operation::EvaluateGates => calls.of_gates(n + q),
         _ => calls.of_circuit(n + q, q),
     }
@@ -223,5 +228,14 @@ impl Calls {
         self.add("lists of two lengths", |call| {
             call.zero.resize(BLOCK * 65_535, 1)
         });
+    }
+
+    /// The least and the largest width in a long buffer, and those just past them.
+    fn of_width(&mut self) {
+        for width in [1, 64, 0, 65, u64::MAX] {
+            self.add("a width at a limit", |call| {
+                (call.width, call.lens) = (width, vec![LONG])
+            });
+        }
     }
 }

@@ -4,7 +4,8 @@
 use super::damage::any_damaged_call;
 use super::outputs::any_outputs;
 use super::{
-    add_run, any_call, any_scheme, call_on, circuit, program_input, room, with_one_operand,
+    add_run, any_call, any_scheme, any_width, call_on, circuit, program_input, room,
+    with_one_operand,
 };
 use crate::call::{Call, Operation};
 use crate::random::Random;
@@ -77,7 +78,8 @@ fn fit(call: &mut Call) {
 fn tampered(random: &mut Random, operation: Operation) -> Call {
     let mut call = any_call(random, operation);
     for _ in 0..random.between(1, 3) {
-        if random.chance(85) {
+        // The comparator is handed no list.
+        if operation != Operation::Comparator && random.chance(85) {
             tamper_list(random, &mut call);
         } else {
             tamper_number(random, &mut call);
@@ -113,7 +115,8 @@ fn tamper_list(random: &mut Random, call: &mut Call) {
     }
 }
 
-/// Changes one of the numbers handed in, a gate of the list form, or an output buffer's length.
+/// Changes one of the numbers handed in, a gate of the list form, or an output buffer's length; the
+/// comparator's one number is its width.
 fn tamper_number(random: &mut Random, call: &mut Call) {
     let chosen = random.below(call.lens.len());
     if let Some(len) = call.lens.get_mut(chosen).filter(|_| random.chance(50)) {
@@ -129,6 +132,10 @@ fn tamper_number(random: &mut Random, call: &mut Call) {
         }
         return;
     }
+    if call.operation == Operation::Comparator {
+        call.width = any_width(random);
+        return;
+    }
     match random.below(5) {
         0 => call.scheme = random.byte(),
         1 => call.bit = random.below(3) as u8,
@@ -141,8 +148,11 @@ fn tamper_number(random: &mut Random, call: &mut Call) {
 /// A call whose lists are noise, but that its circuit may be sound; often of plausible lengths.
 fn noise(random: &mut Random, operation: Operation) -> Call {
     let mut call = any_call(random, operation);
-    if operation != Operation::EvaluateGates && operation != Operation::Pick {
+    if operation.takes_bytes() {
         call.circuit = program_input(random);
+    }
+    if operation == Operation::Comparator {
+        call.width = any_width(random);
     }
     let lists = [
         &mut call.values,

@@ -52,10 +52,12 @@ pub fn arguments(call: &Call) -> String {
         scheme,
         wire,
         bit,
+        width,
         ..
     } = call;
     lines.push(format!(
-        "  n {n}, m {m}, run {run:016x}, scheme {scheme}, wire {wire}, bit {bit} (where it has one)"
+        "  n {n}, m {m}, run {run:016x}, scheme {scheme}, wire {wire}, bit {bit}, width {width} \
+         (where it has one)"
     ));
     lines.push(format!(
         "  output buffers of {:?} bytes, fill {}",

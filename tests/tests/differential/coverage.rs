@@ -1,5 +1,5 @@
-//! How often each refusal of each operation was met, which codes of gates, which runs, which schemes, and
-//! which outputs.
+//! How often each refusal of each operation was met, which codes of gates, which runs, which schemes, which
+//! outputs, and which widths.
 
 use std::collections::{BTreeMap, BTreeSet};
 
@@ -31,6 +31,10 @@ pub struct Coverage {
     refused_outputs: BTreeMap<(u8, &'static str), u64>,
     /// The longest circuit of each operation that was not refused.
     longest: BTreeMap<Operation, usize>,
+    /// The widths of comparators that were written.
+    widths: BTreeSet<u64>,
+    /// The widths at refusal 21.
+    refused_widths: BTreeSet<u64>,
 }
 
 /// The operations that have a scheme.
@@ -91,6 +95,7 @@ impl Coverage {
         }
         self.count_scheme(call, answer);
         self.count_outputs(call, answer);
+        self.count_width(call, answer);
         if answer.number == 7 {
             let (codes, first) = codes(call);
             let index = answer.words[0] - first;
@@ -130,6 +135,15 @@ impl Coverage {
             }
             _ => {}
         }
+    }
+
+    /// Counts the width of a call of the comparator that was answered so.
+    fn count_width(&mut self, call: &Call, answer: &Answer) {
+        match (call.operation, answer.number) {
+            (Operation::Comparator, 0) => self.widths.insert(call.width),
+            (_, 21) => self.refused_widths.insert(answer.words[0]),
+            _ => false,
+        };
     }
 
     /// The calls counted.
@@ -242,6 +256,41 @@ impl Coverage {
             }
         }
         missing
+    }
+
+    /// The comparators of every width from 1 to 64 were written and no other; 0, 65, and a width of more than
+    /// 32 bits were refused, with their own number as the place (02, job 1): prints how many, and gives what was
+    /// not met.
+    pub fn report_widths(&self) -> Vec<String> {
+        let (taken, refused) = (&self.widths, &self.refused_widths);
+        let (count, others) = (taken.len(), refused.len());
+        println!("coverage: comparator: widths taken: {count}; widths refused: {others}");
+        let mut missing = Vec::new();
+        if !taken.iter().copied().eq(1..=64) {
+            missing.push(format!("widths taken {taken:?}, not 1 to 64"));
+        }
+        for width in [0, 65, (1 << 32) + 8, u64::MAX] {
+            if !refused.contains(&width) {
+                missing.push(format!("width {width} never refused"));
+            }
+        }
+        if refused.iter().any(|width| (1..=64).contains(width)) {
+            missing.push("a width from 1 to 64 refused".to_string());
+        }
+        missing
+    }
+
+    /// No operation gave a number that it has no argument for, and so none gave 22 to 24, which are kept for a
+    /// reader of texts (02, job 5): gives what was.
+    pub fn report_others(&self) -> Vec<String> {
+        let mut others = Vec::new();
+        for (operation, number) in self.numbers.keys() {
+            if *number > 0 && !operation.refusals().contains(number) {
+                let name = interface::name(*operation);
+                others.push(format!("{name} gave {number}, which it does not have"));
+            }
+        }
+        others
     }
 
     /// Prints a line for each operation, and gives what it should have met and did not.

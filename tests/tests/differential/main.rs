@@ -176,14 +176,16 @@ impl Run {
         self.random_case(number, &format!("--seed {seed} --case {number}"));
     }
 
-    /// Every refusal that an operation can give was met, every code and every scheme, taken or refused as
-    /// is due, runs of every kind, and both marks of a circuit, with outputs of every kind.
+    /// Every refusal that an operation can give was met, and no other; every code, every scheme and every width,
+    /// taken or refused as is due, runs of every kind, and both marks of a circuit, with outputs of every kind.
     fn all_met(&mut self) {
         let mut missing = self.coverage.report(&self.operations);
         missing.extend(self.coverage.report_codes());
         missing.extend(self.coverage.report_runs());
         missing.extend(self.coverage.report_schemes());
         missing.extend(self.coverage.report_outputs());
+        missing.extend(self.coverage.report_widths());
+        missing.extend(self.coverage.report_others());
         for missing in missing {
             println!("NOT MET: {missing}");
             self.failures += 1;

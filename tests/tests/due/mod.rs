@@ -106,6 +106,7 @@ impl Given<'_> {
             Operation::OutputTokens => vec![16 * self.m],
             Operation::Evaluate | Operation::EvaluateGates => vec![16 * wires],
             Operation::Decode => vec![self.m],
+            Operation::Comparator => vec![28 * self.call.width as usize - 13],
         }
     }
 
@@ -119,6 +120,7 @@ impl Given<'_> {
                 1 | 2 => vec![p],
                 _ => vec![2 * p],
             },
+            Operation::Comparator => self.room(),
             _ => vec![],
         }
     }
@@ -153,10 +155,8 @@ impl Given<'_> {
             (17, _) => return self.faulty_record(),
             (18, _) => return self.faulty_last_record(),
             (19, _) => return self.short_buffer(),
-            (20, _) => {
-                let wire = usize::from(call.wire);
-                (wire == 0 || 16 * wire > call.zero.len(), wire)
-            }
+            (20, _) => return self.wrong_wire(),
+            (21, _) => (!(1..=64).contains(&call.width), call.width as usize),
             (25 | 26, _) => {
                 let (found, output) = self.faulty_output()?;
                 (found == number, output)
@@ -236,6 +236,12 @@ impl Given<'_> {
             let wrong = record[..2] != [0x47, 0x54] || number_at(record, 2) != wire;
             wrong.then_some(wire)
         })
+    }
+
+    /// 20: pick's wire, if it is 0 or past the lists.
+    fn wrong_wire(&self) -> Option<usize> {
+        let wire = usize::from(self.call.wire);
+        (wire == 0 || 16 * wire > self.call.zero.len()).then_some(wire)
     }
 
     /// 19: the bytes needed in the first output buffer that is too short.
