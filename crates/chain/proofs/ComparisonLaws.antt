@@ -2,10 +2,10 @@
 use Prim.Native.Nat.{ℕ, _≤_, _<_, _^_}
 use mathlib.Core.Path.{_≡_, sym, ap, _∙_}
 use mathlib.Core.List.{List}
-use lib.ListN.{length, take}
+use lib.ListN.{length}
 use Rattle.model.specs.declared.Sizes.{Sizes}
 use Rattle.model.specs.declared.Wanted.{Wanted}
-use Rattle.model.specs.Circuit.{inputs, outputs}
+use Rattle.model.specs.Circuit.{outputs}
 use Rattle.model.specs.Garbling.{Known}
 use Rattle.model.specs.Operations.{sizesOf}
 use Rattle.model.specs.Demand3.{Allowed}
@@ -33,19 +33,20 @@ module _ (w : ℕ) (c : List ℕ) (is : Compares w c) where
   unfolding sizesOf
   one-output = ap (λ (z : Sizes). z .m) (is .sizes)
 
+  module _ (price ceiling : ℕ) (h : price < 2 ^ w) (l : ceiling < 2 ^ w) (seed : List ℕ) (want : Wanted) (a : Allowed c seed want (figures w price ceiling))
+      (f z o t ws y b f′ z′ o′ t′ ws′ y′ b′ : List ℕ) where
+    ended : (r : Chained) → ChainIs c seed want (figures w price ceiling) f z o t ws y b r f′ z′ o′ t′ ws′ y′ b′ → Compared price ceiling b′ r
+    ended Chained.Done p = rw (rw one-output at (p .bits-right .decoded)) (is .at-most price ceiling h l)
+    ended (Chained.Garble e) p = p .only-19 a
+    ended (Chained.Encode e) p = p .only-19 a
+    ended (Chained.Evaluate e) p = p .only-19
+    ended (Chained.Outputs e) p = p .only-19
+    ended (Chained.Decode e) p = p .only-19
+
   pub comparison : ComparisonHolds w c
-  comparison = record { compared = ended }
-    where
-      ended : (price ceiling : ℕ) → price < 2 ^ w → ceiling < 2 ^ w → (seed : List ℕ) (want : Wanted) → length seed ≡ 16 → Known (want .scheme)
-          → (f z o t ws y b f′ z′ o′ t′ ws′ y′ b′ : List ℕ) (r : Chained)
-          → ChainIs c seed want (figures w price ceiling) f z o t ws y b r f′ z′ o′ t′ ws′ y′ b′ → Compared price ceiling b′ r
-      ended price ceiling h l seed want long known f z o t ws y b f′ z′ o′ t′ ws′ y′ b′ Chained.Done p =
-          rw (rw one-output at (p .bits-right .decoded)) (is .at-most price ceiling h l)
-      ended price ceiling h l seed want long known f z o t ws y b f′ z′ o′ t′ ws′ y′ b′ (Chained.Garble e) p = p .only-19 (allowed price ceiling seed want long known)
-      ended price ceiling h l seed want long known f z o t ws y b f′ z′ o′ t′ ws′ y′ b′ (Chained.Encode e) p = p .only-19 (allowed price ceiling seed want long known)
-      ended price ceiling h l seed want long known f z o t ws y b f′ z′ o′ t′ ws′ y′ b′ (Chained.Evaluate e) p = p .only-19
-      ended price ceiling h l seed want long known f z o t ws y b f′ z′ o′ t′ ws′ y′ b′ (Chained.Outputs e) p = p .only-19
-      ended price ceiling h l seed want long known f z o t ws y b f′ z′ o′ t′ ws′ y′ b′ (Chained.Decode e) p = p .only-19
+  comparison = record {
+    compared = λ price ceiling h l seed want long known. ended price ceiling h l seed want (allowed price ceiling seed want long known);
+  }
 
 -- and so of the circuit that `comparator` writes, for every width that it takes
 pub comparison-by-width : (w : ℕ) → 1 ≤ w → w ≤ 64 → ComparisonHolds w (comparatorBytes w)

@@ -55,7 +55,7 @@ bytes-are w h = omega (arith, bytes-long (2 * w) 1 (comparatorGates w), gates-ma
 module _ (w : ℕ) (o : List ℕ) where
   refused-is : (i x : ℕ) → refused i x ≡ comparatorVerdict w (length o) → ComparatorIs w o (no (refused i x)) o
   refused-is i x e =
-      record { answered = rw (← e); left = rw (← e); right = λ f. absurd (let z : _≡_ {A = ℕ} 0 1 = (let g = e ∙ f in cc) in omega arith) }
+      record { answered = rw (← e); left = rw (← e); is-comparator = λ f. absurd (let z : _≡_ {A = ℕ} 0 1 = (let g = e ∙ f in cc) in omega arith) }
 
   -- what the width's check answered
   module _ (r : Ran) (is-r : ranOf r ≡ widthVerdict w) where
@@ -101,7 +101,7 @@ module _ (w : ℕ) (o : List ℕ) where
               record {
                 answered = rw (← is-fine);
                 left = rw (← is-fine) e;
-                right = λ _. rw (e, front) (compares w (allowed .low) (allowed .high));
+                is-comparator = λ _. rw (e, front) (compares w (allowed .low) (allowed .high));
               }
 
 -- whatever the operation asks and answers

@@ -57,4 +57,4 @@ comparatorVerdict w room = widthVerdict w then roomVerdict (comparatorLength w) 
 pub record ComparatorIs (w : ℕ) (o : List ℕ) (r : Answer ℕ) (x : List ℕ) : Type 0 where
   pub answered : r ≡ answer (comparatorVerdict w (length o)) (comparatorLength w)
   pub left : x ≡ written (comparatorVerdict w (length o)) (comparatorBytes w) o
-  pub right : comparatorVerdict w (length o) ≡ fine → Compares w (take (comparatorLength w) x)
+  pub is-comparator : comparatorVerdict w (length o) ≡ fine → Compares w (take (comparatorLength w) x)

@@ -112,6 +112,11 @@ fn run_named() {
     run_file(12, b"chain-named");
 }
 
+// Cases of the second implementation on comparators (02, job 1).
+fn run_compared() {
+    run_file(12, b"chain-comparator");
+}
+
 fn main() {
     run_outside();
     run_stored();
@@ -120,4 +125,5 @@ fn main() {
     run_runs();
     run_rekeyed();
     run_named();
+    run_compared();
 }
