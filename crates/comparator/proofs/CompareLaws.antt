@@ -19,7 +19,7 @@ use Rattle.model.proofs.Accepted.{GatesHold, no-gate, gate}
 use Rattle.model.proofs.Made.{Makes, gates-append, made-accepted, made-circuit, made-sizes}
 use Rattle.comparator.specs.Compares.{figures, SaysAtMost, Compares}
 use Rattle.comparator.specs.Comparator as C
-use Rattle.comparator.specs.Comparator.{soFar, bitGates, bitsTo, comparatorGates, comparatorBytes}
+use Rattle.comparator.specs.Comparator.{firstGate, bitGates, soFar, nextGates, bitsTo, comparatorGates, comparatorBytes}
 use Rattle.comparator.proofs.FigureLaws.{is-bit, figures-long, price-at, ceiling-at}
 use Rattle.comparator.proofs.WriteLaws.{bits-many, gates-many}
 use Rattle.comparator.proofs.BitLaws.{Says, at-most, above, first-says, next-says, bit-wires}
@@ -33,8 +33,8 @@ bits-charged : (w k : ℕ) → charges (bitsTo w k) ≡ k
 unfolding bitsTo charges
 bits-charged w zero = refl
 bits-charged w (suc k) =
-    let bit = bit-charged (k + 2) (w + k + 2) (soFar w k) in
-    rw (charges-append (bitsTo w k) (bitGates (k + 2) (w + k + 2) (soFar w k))) (omega (arith, bit, bits-charged w k))
+    let bit : charges (nextGates w k) ≡ 1 = bit-charged _ _ _ in
+    rw (charges-append (bitsTo w k) (nextGates w k)) (omega (arith, bit, bits-charged w k))
 
 gates-charged : (w : ℕ) → 1 ≤ w → charges (comparatorGates w) ≡ w
 unfolding comparatorGates charges kindOf kinds
@@ -61,14 +61,14 @@ unfolding bitsTo
 bits-hold w zero h = no-gate
 bits-hold w (suc k) h =
     let at : soFar w k + 1 ≡ 2 * w + 2 + length (bitsTo w k) = omega (arith, bits-many w k) in
-    gates-append (bits-hold w k (omega arith))
-    (rw at at (bit-holds (k + 2) (w + k + 2) (soFar w k) (omega arith) (omega arith) (omega arith) (omega arith)))
+    let bit : GatesHold (soFar w k + 1) (nextGates w k) = bit-holds _ _ _ (omega arith) (omega arith) (omega arith) (omega arith) in
+    gates-append (bits-hold w k (omega arith)) (rw at at bit)
 
 gates-hold : (w : ℕ) → 1 ≤ w → GatesHold (suc (2 * w)) (comparatorGates w)
 unfolding comparatorGates kindOf kinds
 gates-hold w h =
     let at : 2 * w + 2 ≡ suc (suc (2 * w)) = omega arith in
-    holds (suc (2 * w)) 1 (w + 1) 11 (bitsTo w (w - 1)) (omega arith) (omega arith) (omega arith) used-charged
+    holds (suc (2 * w)) 1 (w + 1) (firstGate w .code) (bitsTo w (w - 1)) (omega arith) (omega arith) (omega arith) used-charged
     (rw at at (bits-hold w (w - 1) (omega arith)))
 
 makes : (w : ℕ) → 1 ≤ w → w ≤ 64 → Makes (2 * w) 1 (comparatorGates w)
@@ -96,7 +96,7 @@ module _ (w x y : ℕ) where
     says : Says (getD ws (soFar w k - 1) 0) (x % 2 ^ (k + 1)) (y % 2 ^ (k + 1))
 
   abbrev start : List ℕ
-  start = figures w x y ++ (gateValue (figures w x y) (C.gate 1 (w + 1) 11) ∷ [])
+  start = figures w x y ++ (gateValue (figures w x y) (firstGate w) ∷ [])
 
   is-first : 1 ≤ w → getD start (soFar w 0 - 1) 0 ≡ value 11 (x % 2) (y % 2)
   unfolding gateValue
@@ -105,7 +105,7 @@ module _ (w x y : ℕ) where
       let a : getD (figures w x y) 0 0 ≡ x % 2 = price-at w x y 0 (omega arith) ∙ omega arith in
       let b : getD (figures w x y) (w + 0) 0 ≡ y % 2 = ceiling-at w x y 0 (omega arith) ∙ omega arith in
       let c : w + 1 - 1 ≡ w + 0 = omega arith in
-      rw (at, getD-append-add (figures w x y) (gateValue (figures w x y) (C.gate 1 (w + 1) 11) ∷ []) 0 0, c, a, b)
+      rw (at, getD-append-add (figures w x y) (gateValue (figures w x y) (firstGate w) ∷ []) 0 0, c, a, b)
 
   carried-first : 1 ≤ w → Carried 0 start
   carried-first h =
@@ -116,7 +116,7 @@ module _ (w x y : ℕ) where
         says = rw (is-first h) (first-says (x % 2) (y % 2) (is-bit x) (is-bit y));
       }
 
-  carried-next : (k : ℕ) (ws : List ℕ) → k + 1 < w → Carried k ws → Carried (k + 1) (wires gateValue (bitGates (k + 2) (w + k + 2) (soFar w k)) ws)
+  carried-next : (k : ℕ) (ws : List ℕ) → k + 1 < w → Carried k ws → Carried (k + 1) (wires gateValue (nextGates w k) ws)
   carried-next k ws h c =
       let more = bit-wires ws (k + 2) (w + k + 2) (soFar w k) (omega arith) (omega arith) (omega arith) (omega arith) (c .long) in
       let a : getD ws (k + 2 - 1) 0 ≡ x / 2 ^ (k + 1) % 2 =
@@ -137,7 +137,7 @@ module _ (w x y : ℕ) where
   unfolding bitsTo wires
   carried zero h = carried-first h
   carried (suc k) h =
-      rw (wires-append gateValue (bitsTo w k) (bitGates (k + 2) (w + k + 2) (soFar w k)) start, ← add-one k)
+      rw (wires-append gateValue (bitsTo w k) (nextGates w k) start, ← add-one k)
       (carried-next k (wires gateValue (bitsTo w k) start) (omega arith) (carried k (omega arith)))
 
 -- ---- the output

@@ -9,7 +9,7 @@ use Rattle.model.specs.Bytes.{two, over, put}
 use Rattle.model.specs.Circuit.{gateBytes, recordBytes, circuitBytes}
 use Rattle.model.proofs.Buffers.{over-put, put-length, put-put, put-none}
 use Rattle.model.proofs.Records.{records-append, records-long}
-use Rattle.comparator.specs.Comparator.{gate, soFar, bitGates, bitsTo, comparatorGates, comparatorBytes, comparatorLength}
+use Rattle.comparator.specs.Comparator.{gate, firstGate, bitGates, nextGates, bitsTo, comparatorGates, comparatorBytes, comparatorLength}
 use Rattle.comparator.specs.Parts.{BitStart, WriteStart}
 
 -- ---- four gates, one after the other
@@ -52,20 +52,20 @@ module _ (w : ℕ) (o : List ℕ) where
     long : (k : ℕ) → length (recordBytes (bitsTo w k)) ≡ 28 * k
     long k = omega (arith, records-long (bitsTo w k), bits-many w k)
 
-    bit-long : (k : ℕ) → length (recordBytes (bitGates (k + 2) (w + k + 2) (soFar w k))) ≡ 28
+    bit-long : (k : ℕ) → length (recordBytes (nextGates w k)) ≡ 28
     unfolding bitGates recordBytes gateBytes
     bit-long k = refl
 
-    one-more : (k : ℕ) → recordBytes (bitsTo w k) ++ recordBytes (bitGates (k + 2) (w + k + 2) (soFar w k)) ≡ recordBytes (bitsTo w (k + 1))
+    one-more : (k : ℕ) → recordBytes (bitsTo w k) ++ recordBytes (nextGates w k) ≡ recordBytes (bitsTo w (k + 1))
     unfolding bitsTo
-    one-more k = rw (add-one k) (sym (records-append (bitsTo w k) (bitGates (k + 2) (w + k + 2) (soFar w k))))
+    one-more k = rw (add-one k) (sym (records-append (bitsTo w k) (nextGates w k)))
 
-    pub bits-turn : (k : ℕ) (d x : List ℕ) → Writing k d → k + 1 < w → x ≡ put d (15 + 28 * k) (recordBytes (bitGates (k + 2) (w + k + 2) (soFar w k)))
+    pub bits-turn : (k : ℕ) (d x : List ℕ) → Writing k d → k + 1 < w → x ≡ put d (15 + 28 * k) (recordBytes (nextGates w k))
         → Writing (k + 1) x
     unfolding comparatorLength
     bits-turn k d x inv h e =
         let bits : List ℕ = recordBytes (bitsTo w k) in
-        let bit : List ℕ = recordBytes (bitGates (k + 2) (w + k + 2) (soFar w k)) in
+        let bit : List ℕ = recordBytes (nextGates w k) in
         let room : 15 + length bits + length bit ≤ length o = omega (arith, start .room, long k, bit-long k) in
         record {
           within = omega arith;
@@ -78,12 +78,12 @@ module _ (w : ℕ) (o : List ℕ) where
 
     -- ---- all of it
     pub comparator-written : (a b c : List ℕ) → a ≡ over (0x43 ∷ 0x48 ∷ two (2 * w) ++ two 1 ++ two (4 * w - 3)) o
-        → b ≡ put a 8 (gateBytes (gate 1 (w + 1) 11)) → c ≡ put b 15 (recordBytes (bitsTo w (w - 1))) → c ≡ over (comparatorBytes w) o
+        → b ≡ put a 8 (gateBytes (firstGate w)) → c ≡ put b 15 (recordBytes (bitsTo w (w - 1))) → c ≡ over (comparatorBytes w) o
     unfolding comparatorBytes comparatorGates comparatorLength circuitBytes recordBytes gateBytes
     comparator-written a b c e f g =
         let head : List ℕ = 0x43 ∷ 0x48 ∷ two (2 * w) ++ two 1 ++ two (4 * w - 3) in
-        let first : List ℕ = gateBytes (gate 1 (w + 1) 11) in
+        let first : List ℕ = gateBytes (firstGate w) in
         let rest : List ℕ = recordBytes (bitsTo w (w - 1)) in
         let room : 15 + length rest ≤ length o = omega (arith, start .room, start .low, long (w - 1)) in
-        let many : length (gate 1 (w + 1) 11 ∷ bitsTo w (w - 1)) ≡ 4 * w - 3 = gates-many w (start .low) in
+        let many : length (firstGate w ∷ bitsTo w (w - 1)) ≡ 4 * w - 3 = gates-many w (start .low) in
         rw (g, f, e, over-put head o first 8 refl (omega (arith, room)), many) (over-put (head ++ first) o rest 15 refl room)

@@ -17,23 +17,30 @@ use Rattle.comparator.specs.Compares.{Compares}
 abbrev pub gate : ℕ → ℕ → ℕ → Gate
 gate a b code = record { a = record { 0 = a }; b = record { 0 = b }; code = code }
 
--- the wire that says whether the k + 1 lowest bits of the price are at most those of the ceiling
-abbrev pub soFar : ℕ → ℕ → ℕ
-soFar w k = 2 * w + 1 + 4 * k
+-- of the lowest bit alone price ≤ ceiling is one gate, NOT price OR ceiling
+abbrev pub firstGate : ℕ → Gate
+firstGate w = gate 1 (w + 1) 11
 
 -- one bit more, from its wires in the price and in the ceiling and from the wire c that says it of the bits below:
 -- t = price XNOR c, u = ceiling XOR c, v = t AND u; c XOR v says it of this bit too
 unfoldable pub bitGates : ℕ → ℕ → ℕ → List Gate
 bitGates price ceiling c = gate price c 9 ∷ gate ceiling c 6 ∷ gate (c + 1) (c + 2) 8 ∷ gate c (c + 3) 6 ∷ []
 
--- the gates of k bits above the lowest, in a comparator of width w
+-- the wire that says it of the k + 1 lowest bits, in a comparator of width w
+abbrev pub soFar : ℕ → ℕ → ℕ
+soFar w k = 2 * w + 1 + 4 * k
+
+-- the gates of the bit after those
+abbrev pub nextGates : ℕ → ℕ → List Gate
+nextGates w k = bitGates (k + 2) (w + k + 2) (soFar w k)
+
+-- the gates of k bits above the lowest
 unfoldable pub bitsTo : ℕ → ℕ → List Gate
 bitsTo w zero = []
-bitsTo w (suc k) = bitsTo w k ++ bitGates (k + 2) (w + k + 2) (soFar w k)
+bitsTo w (suc k) = bitsTo w k ++ nextGates w k
 
--- of the lowest bit alone, price ≤ ceiling is one gate
 unfoldable pub comparatorGates : ℕ → List Gate
-comparatorGates w = gate 1 (w + 1) 11 ∷ bitsTo w (w - 1)
+comparatorGates w = firstGate w ∷ bitsTo w (w - 1)
 
 -- ---- the file
 
