@@ -36,11 +36,11 @@ module _ (w : ℕ) where
   width-held h l = rw (le-leb 1 w h, le-leb w 64 l)
 
 -- what it tells that none refuses
-record Allowed (w : ℕ) : Type 0 where
+record WidthHolds (w : ℕ) : Type 0 where
   low : 1 ≤ w
   high : w ≤ 64
 
-width-fine : (w : ℕ) → fine ≡ widthVerdict w → Allowed w
+width-fine : (w : ℕ) → fine ≡ widthVerdict w → WidthHolds w
 unfolding widthVerdict
 width-fine w e =
     let a = and-both _ _ (not-false _ (refuse-fine _ _ _ (sym e))) in
@@ -64,7 +64,7 @@ module _ (w : ℕ) (o : List ℕ) where
     width-refused f e = refused-is _ _ (then-refused _ _ _ _ (ran-refused r _ is-r f e))
 
     module _ (done : r ≡ Ran.Done) where
-      allowed : Allowed w
+      allowed : WidthHolds w
       allowed = width-fine w (ran-done r _ is-r done)
 
       pub needed-fits : Fits w64 (28 * w)

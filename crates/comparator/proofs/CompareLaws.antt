@@ -75,11 +75,15 @@ makes : (w : ℕ) → 1 ≤ w → w ≤ 64 → Makes (2 * w) 1 (comparatorGates 
 makes w h l =
     let many = gates-many w h in
     record {
-      n-low = omega arith;
-      n-high = omega arith;
-      m-low = omega arith;
-      m-high = omega (arith, many);
-      sum = omega (arith, many);
+      sizes = record {
+        n-low = omega arith;
+        n-high = omega arith;
+        m-low = omega arith;
+        m-high = omega (arith, many);
+        q-low = omega (arith, many);
+        sum = omega (arith, many);
+      };
+      few-outputs = omega (arith, many);
       gates-hold = gates-hold w h;
     }
 

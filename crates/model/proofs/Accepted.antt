@@ -4,7 +4,7 @@ use native.Mathlib.Omega.{arith}
 use mathlib.Core.Path.{_≡_, refl, ap₂}
 use mathlib.Core.Bool.{Bool, true, false}
 use mathlib.Core.List.{List, [], _∷_, map}
-use borrow.Author.Tests.{ltb-true, leb-true, eqb-true, not-false}
+use borrow.Author.Tests.{le-leb, ltb-true, leb-true, eqb-true, not-false}
 use lib.ListN.{length, getD}
 use Rattle.model.specs.declared.Gate.{Gate}
 use Rattle.model.specs.Bytes.{from}
@@ -48,6 +48,12 @@ sizes-held by-name n m q e =
       q-low = leb-true _ _ (b .1);
       sum = leb-true _ _ (a .1);
     }
+
+-- and back, with the limit of m that its mark has
+pub sizes-kept : (by-name : Bool) (n m q : ℕ) → SizesHold n m q → m ≤ mostOutputs by-name n q → sizesHold by-name n m q ≡ true
+unfolding sizesHold
+sizes-kept by-name n m q h most =
+    rw (le-leb _ _ (h .n-low), le-leb _ _ (h .n-high), le-leb _ _ (h .m-low), le-leb _ _ most, le-leb _ _ (h .q-low), le-leb _ _ (h .sum))
 
 pub record HeaderHolds (s : List ℕ) : Type 0 where
   pub sizes : SizesHold (inputs s) (outputs s) (gates s)

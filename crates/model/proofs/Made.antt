@@ -15,7 +15,7 @@ use Rattle.model.specs.Operations.{sizesOf}
 use Rattle.model.proofs.Lists.{from-cong, tabulate-getD}
 use Rattle.model.proofs.Codes.{Used}
 use Rattle.model.proofs.Verdicts.{first-all}
-use Rattle.model.proofs.Accepted.{GateHolds, GatesHold, no-gate, gate}
+use Rattle.model.proofs.Accepted.{SizesHold, sizes-kept, GateHolds, GatesHold, no-gate, gate}
 use Rattle.model.proofs.Records.{noGate, not-named, mark-made, gate-made, inputs-made, outputs-made, gates-made, head-made}
 
 -- ---- gates that keep their limits
@@ -46,34 +46,23 @@ gate-fine own g h = rw (le-leb _ _ (h .a-low), lt-ltb _ _ (h .order), lt-ltb _ _
 
 -- ---- the circuit made from them
 pub record Makes (n m : ℕ) (gs : List Gate) : Type 0 where
-  pub n-low : 2 ≤ n
-  pub n-high : n ≤ 4096
-  pub m-low : 1 ≤ m
-  pub m-high : m ≤ length gs
-  pub sum : n + length gs ≤ 65535
+  pub sizes : SizesHold n m (length gs)
+  pub few-outputs : m ≤ length gs
   pub gates-hold : GatesHold (suc n) gs
 
 module _ (n m : ℕ) (gs : List Gate) (made : Makes n m gs) where
   n-fits : n ≤ 65535
-  n-fits = omega (arith, made .n-high)
+  n-fits = omega (arith, made .sizes .n-high)
 
   m-fits : m ≤ 65535
-  m-fits = omega (arith, made .m-high, made .sum)
+  m-fits = omega (arith, made .few-outputs, made .sizes .sum)
 
   few : length gs ≤ 65535
-  few = omega (arith, made .sum)
+  few = omega (arith, made .sizes .sum)
 
   sizes-fine : sizesHold false n m (length gs) ≡ true
-  unfolding sizesHold mostOutputs
-  sizes-fine =
-      rw (
-        le-leb _ _ (made .n-low),
-        le-leb _ _ (made .n-high),
-        le-leb _ _ (made .m-low),
-        le-leb _ _ (made .m-high),
-        le-leb 1 (length gs) (omega (arith, made .m-low, made .m-high)),
-        le-leb _ _ (made .sum),
-      )
+  unfolding mostOutputs
+  sizes-fine = sizes-kept false n m (length gs) (made .sizes) (made .few-outputs)
 
   gate-at : (k : ℕ) → k < length gs → GateHolds (gateWire n k) (getD gs k noGate)
   gate-at k h =
@@ -84,7 +73,7 @@ module _ (n m : ℕ) (gs : List Gate) (made : Makes n m gs) where
   gate-is k h =
       let g = gate-at k h in
       gate-made n m gs k h
-      (record { a-fits = omega (arith, g .order, g .b-high, made .sum); b-fits = omega (arith, g .b-high, made .sum) })
+      (record { a-fits = omega (arith, g .order, g .b-high, made .sizes .sum); b-fits = omega (arith, g .b-high, made .sizes .sum) })
 
   record-fine : (k : ℕ) → k < length gs → recordVerdict (circuitBytes n m gs) n k ≡ fine
   unfolding recordVerdict refuse _then_

@@ -16,7 +16,7 @@ use Rattle.model.specs.Refusals.{Verdict, fine, refuse, _then_, headVerd
 use Rattle.model.specs.Operations.{Answer, Made, sizesOf, plainVerdict, garbleVerdict, garbleMade, encodeVerdict, evaluateVerdict, evaluateCallsOf, outputTokensVerdict, decodeVerdict, PlainIs, GarbleIs, EncodeIs, EvaluateIs, OutputTokensIs, DecodeIs}
 use Rattle.model.specs.Kept.{outputBytes, namedOf, StandsFor}
 use Rattle.model.proofs.Lists.{from-cong, tabulate-length, entry}
-use Rattle.model.proofs.Accepted.{SizesHold, accepted-header}
+use Rattle.model.proofs.Accepted.{SizesHold, sizes-kept, accepted-header}
 use Rattle.model.proofs.OwnMaterial.{two-back}
 use Rattle.model.proofs.Verdicts.{then-fine, first-each, first-all}
 
@@ -44,9 +44,8 @@ or-true false = refl
 
 -- more outputs are allowed by name than without
 sizes-by-name : (n m q : ℕ) → SizesHold n m q → sizesHold true n m q ≡ true
-unfolding sizesHold mostOutputs
-sizes-by-name n m q h =
-    rw (le-leb _ _ (h .n-low), le-leb _ _ (h .n-high), le-leb _ _ (h .m-low), le-leb _ _ (h .m-high), le-leb _ _ (h .q-low), le-leb _ _ (h .sum))
+unfolding mostOutputs
+sizes-by-name n m q h = sizes-kept true n m q h (h .m-high)
 
 -- ---- no operation tells apart two circuits of which the same is said
 
