@@ -40,8 +40,8 @@ fn comparison(random: &mut Random, scheme: Scheme, width: u64, figures: Figures)
     chain
 }
 
-/// By each scheme: every pair of some narrow widths, one of wide ones, and each call ended by 19, which alone can end
-/// it.
+/// By each scheme: the five pairs of some narrow widths, one of wide ones, and each call ended by 19, which alone
+/// can end it.
 pub fn chains() -> String {
     let mut random = Random::new(1_005);
     let random = &mut random;

@@ -122,7 +122,8 @@ module _ (w x y : ℕ) where
 
   carried-next : (k : ℕ) (ws : List ℕ) → k + 1 < w → Carried k ws → Carried (k + 1) (wires gateValue (nextGates w k) ws)
   carried-next k ws h c =
-      let more = bit-wires ws (k + 2) (w + k + 2) (soFar w k) (omega arith) (omega arith) (omega arith) (omega arith) (c .long) in
+      let more : wires gateValue (nextGates w k) ws ≡ ws ++ _ =
+      bit-wires ws (k + 2) (w + k + 2) (soFar w k) (omega arith) (omega arith) (omega arith) (omega arith) (c .long) in
       let a : getD ws (k + 2 - 1) 0 ≡ x / 2 ^ (k + 1) % 2 =
       (let at : k + 2 - 1 ≡ k + 1 = omega arith in rw at (c .kept (k + 1) (omega arith) ∙ price-at w x y (k + 1) h)) in
       let b : getD ws (w + k + 2 - 1) 0 ≡ y / 2 ^ (k + 1) % 2 =
