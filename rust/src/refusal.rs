@@ -15,6 +15,7 @@ use std::fmt;
 /// A refusal leaves every buffer as it was. Its `Display` says in words what is wrong and where.
 #[derive(Clone, Copy, Debug, PartialEq, Eq, Hash)]
 #[must_use = "a refused operation wrote nothing"]
+#[non_exhaustive]
 pub enum Refusal {
     /// 1: the circuit has under 8 bytes.
     CircuitShort {
@@ -233,12 +234,9 @@ impl fmt::Display for Refusal {
             Self::CircuitMark => write!(f, "the circuit does not begin with the mark 43 48 or 43 49"),
             Self::Limits => write!(f, "the circuit's sizes, at byte 2, break a limit: {LIMITS}"),
             Self::CircuitLength { length } => write!(f, "the circuit has {}, {NOT_WHOLE}", Bytes(length)),
-            Self::GateMark { wire } => write!(f, "the gate of wire {wire} does not begin with the mark 43 47"),
-            Self::Operands { wire } => write!(
-                f,
-                "the gate of wire {wire} has operands that are not 1 <= a < b < {wire}"
-            ),
-            Self::Code { wire } => write!(f, "the gate of wire {wire} has a code that is not one of {CODES}"),
+            Self::GateMark { wire } => write!(f, "gate {wire} does not begin with the mark 43 47"),
+            Self::Operands { wire } => write!(f, "gate {wire} has operands that are not 1 <= a < b < {wire}"),
+            Self::Code { wire } => write!(f, "gate {wire} has a code that is neither charged nor free"),
             Self::SeedLength { length } => write!(f, "the seed has {}, it needs 16", Bytes(length)),
             Self::ValuesLength { length } => write!(f, "the value list has {}, not one for each input", Bytes(length)),
             Self::Value { index } => write!(f, "the value at index {index} is neither 0 nor 1"),
@@ -266,7 +264,6 @@ impl fmt::Display for Refusal {
 
 const LIMITS: &str = "n from 2 to 4096, m from 1 to q, or to n+q with the mark 43 49, q at least 1, n+q at most 65535";
 const NOT_WHOLE: &str = "not 8 and 7 for each gate, and with the mark 43 49 another 4 for each output";
-const CODES: &str = "1, 2, 4, 7, 8, 11, 13, 14 (charged), 3, 5, 6, 9, 10, 12 (free)";
 const NOT_ITS_LENGTH: &str = "which is not the length for its scheme and the circuit";
 const NOT_LAST: &str = "has a wrong mark or a byte over 1";
 const NOT_A_LINE: &str = "is not of its form, is missing or lacks its line feed";
@@ -294,14 +291,9 @@ mod tests {
             14,
             "the circuit has 14 bytes, not 8 and 7 for each gate, and with the mark 43 49 another 4 for each output",
         ),
-        (5, 3, "the gate of wire 3 does not begin with the mark 43 47"),
-        (6, 3, "the gate of wire 3 has operands that are not 1 <= a < b < 3"),
-        (
-            7,
-            3,
-            "the gate of wire 3 has a code that is not one of \
-             1, 2, 4, 7, 8, 11, 13, 14 (charged), 3, 5, 6, 9, 10, 12 (free)",
-        ),
+        (5, 3, "gate 3 does not begin with the mark 43 47"),
+        (6, 3, "gate 3 has operands that are not 1 <= a < b < 3"),
+        (7, 3, "gate 3 has a code that is neither charged nor free"),
         (8, 15, "the seed has 15 bytes, it needs 16"),
         (9, 1, "the value list has 1 byte, not one for each input"),
         (10, 1, "the value at index 1 is neither 0 nor 1"),
