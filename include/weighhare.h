@@ -57,8 +57,10 @@
  * function's arguments moved. 0.7.0 adds circuits whose outputs are named, with the mark 43 49, which was refusal 2
  * before, refusals 25 and 26, and weighhare_output_tokens; no function's arguments moved. 0.8.0 adds weighhare_comparator
  * and refusal 21, which it alone gives, and the numbers 22 to 24, which nothing gives yet; no function's arguments moved.
+ * 0.9.0 adds the lengths below, from weighhare_wire_tokens_length on, which stand in this header alone: the archive is that
+ * of 0.8.0.
  */
-#define WEIGHHARE_VERSION "0.8.0"
+#define WEIGHHARE_VERSION "0.9.0"
 
 #include <stddef.h>
 #include <stdint.h>
@@ -285,6 +287,32 @@ uint8_t weighhare_pick(const uint8_t *zeros, size_t zeros_len, const uint8_t *on
  *   answer   the circuit's length, 0, 0, 0
  */
 uint8_t weighhare_comparator(uint64_t width, uint8_t *circuit, size_t circuit_len, uint64_t answer[4]);
+
+/*
+ * How long the buffers must be, in bytes. `sizes` is what weighhare_check answered: n, m, q, p. These are not of the archive,
+ * and not proved: where one were wrong, refusal 19 or 11 would say so.
+ */
+
+/* A token for every wire, 16(n+q): garble's `zeros`, evaluate's `wires`. */
+static inline size_t weighhare_wire_tokens_length(const uint64_t sizes[4]) { return (size_t)(16 * (sizes[0] + sizes[2])); }
+
+/* A token for every input, 16n: garble's `ones`, encode's `tokens`. */
+static inline size_t weighhare_input_tokens_length(const uint64_t sizes[4]) { return (size_t)(16 * sizes[0]); }
+
+/* A token for every output, 16m: output_tokens' `tokens`. */
+static inline size_t weighhare_output_tokens_length(const uint64_t sizes[4]) { return (size_t)(16 * sizes[1]); }
+
+/* The material under a scheme, 11 + m + p(4 + 16 rows); 0 for a scheme that there is not. */
+static inline size_t weighhare_material_length(const uint64_t sizes[4], uint8_t scheme) {
+    const uint64_t rows[5] = {0, 4, 3, 2, 2};
+    if (scheme < WEIGHHARE_GAX || scheme > WEIGHHARE_REKEYED_HALF_GATES) return 0;
+    return (size_t)(11 + sizes[1] + sizes[3] * (4 + 16 * rows[scheme]));
+}
+
+/* The circuit that weighhare_comparator writes for a width w, 28w-13; 0 for a width that it refuses. */
+static inline size_t weighhare_comparator_length(uint64_t width) {
+    return width < 1 || width > 64 ? 0 : (size_t)(28 * width - 13);
+}
 
 /* What a function's number says, in words: for 0 "nothing refused", from 27 "no such refusal". */
 static inline const char *weighhare_words(uint8_t number) {

@@ -139,14 +139,14 @@ impl Arguments {
     }
 }
 
-/// What is said of an option that there is not. What has no letter after the dashes may be a figure, and is not said.
+/// What is said of an option that there is not: its letters, and nothing after them, which may be a figure.
 fn unknown(name: &[u8]) -> String {
-    match std::str::from_utf8(name) {
-        Ok(name) if name.starts_with("--") && name[2..].starts_with(|c: char| c.is_ascii_alphabetic()) => {
-            format!("there is no option {}", name.escape_debug())
-        }
-        _ => "a word begins with - and is no option".to_owned(),
-    }
+    let letters = name
+        .iter()
+        .take_while(|byte| byte.is_ascii_alphabetic() || **byte == b'-');
+    let letters: String = letters.map(|byte| char::from(*byte)).collect();
+    let more = if letters.len() < name.len() { ".." } else { "" };
+    format!("there is no option {letters}{more}")
 }
 
 /// A number in decimal digits, and nothing else.

@@ -43,6 +43,7 @@ Example:
 ";
 
 fn run(arguments: &Arguments) -> Result<(), Trouble> {
+    arguments.needed("--tokens")?;
     let output = Output::of(arguments, &[("--out", For::Owner), ("--wires", For::Owner)])?;
     let mut input = Input::default();
     let circuit = input.read("the circuit", arguments.word(0))?;
