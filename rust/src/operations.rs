@@ -377,7 +377,7 @@ pub fn pick<'a>(zeros: &'a [u8], ones: &'a [u8], wire: u16, bit: u8) -> Result<&
 /// Writes the circuit that compares two figures of `width` bits each, a price and a ceiling, and answers its length.
 ///
 /// `width` is 1 to 64. Writes 28w-13 bytes to `circuit`, where w is the width: 1,779 for 64 bits. Inputs 1 to w are the price
-/// and w+1 to 2w the ceiling, the lowest bit of each first, as [`figure_values`] writes them; the one output is 1 exactly when
+/// and w+1 to 2w the ceiling, the lowest bit of each first, as [`figure_values`](crate::figure_values) writes them; the one output is 1 exactly when
 /// price <= ceiling. n is 2w, m 1, q 4w-3 and p w.
 ///
 /// There is one circuit for each width, so that whoever agrees on the width has the same bytes. It is no secret.

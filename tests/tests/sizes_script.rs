@@ -2,18 +2,15 @@
 //! has a folder with a copy of the script, and stand-ins for `rt` and for the program that do what the
 //! test says and leave a trace. So no toolchain is needed, and the repository's own build stays untouched.
 
-use std::env;
-use std::fs::{self, File};
-use std::os::unix::fs::{symlink, PermissionsExt};
-use std::os::unix::process::CommandExt;
-use std::path::{Path, PathBuf};
-use std::process::{Child, Command, Stdio};
-use std::sync::{Mutex, MutexGuard, PoisonError};
-use std::thread;
-use std::time::{Duration, Instant, SystemTime};
+mod places;
 
-/// The time that one run may take.
-const TIME: Duration = Duration::from_secs(10);
+use places::{Ended, Place};
+use std::env;
+use std::fs;
+use std::os::unix::fs::symlink;
+use std::path::Path;
+use std::process::Child;
+use std::time::{Duration, SystemTime};
 
 const HOUR: Duration = Duration::from_secs(3600);
 
@@ -37,39 +34,10 @@ const NOTE: &str = "sizes: proving and building the program";
 const RT: &str = "cat >/dev/null\necho \"$(pwd -P): $*\" >\"$root/rt-ran\"\n. \"$root/rt-does\"\n";
 const PROGRAM_TEXT: &str = "cat >\"$root/program-got\"\n. \"$root/program-does\"\n";
 
-/// A program that is still open for writing, in a process that another test is just starting too, cannot
-/// be started. So one test runs at a time.
-static ALONE: Mutex<()> = Mutex::new(());
-
-/// A folder for one test.
-struct Place {
-    root: PathBuf,
-    _alone: MutexGuard<'static, ()>,
-}
-
-/// A run of the script that has ended. The status is none where a signal ended it.
-#[derive(Debug)]
-struct Ended {
-    status: Option<i32>,
-    stdout: String,
-    stderr: String,
-}
-
 impl Place {
     /// A folder where all is proved and up to date, and the program accepts.
     fn new(name: &str) -> Place {
-        let alone = ALONE.lock().unwrap_or_else(PoisonError::into_inner);
-        let root = PathBuf::from(env!("CARGO_TARGET_TMPDIR"))
-            .join("sizes_script")
-            .join(name);
-        if root.exists() {
-            fs::remove_dir_all(&root).expect("a folder of an earlier run to remove");
-        }
-        fs::create_dir_all(&root).expect("a folder to make");
-        let place = Place {
-            root,
-            _alone: alone,
-        };
+        let place = Place::empty("sizes_script", name);
         place.copy("sizes", SCRIPT);
         place.copy("include/weighhare.h", HEADER);
         place.write("a repository/crates.txt", b"sizes: text io libc\n");
@@ -85,50 +53,6 @@ impl Place {
         place.stand_in(PROGRAM, PROGRAM_TEXT);
         place.answer(ANSWER);
         place
-    }
-
-    fn path(&self, name: &str) -> PathBuf {
-        self.root.join(name)
-    }
-
-    fn exists(&self, name: &str) -> bool {
-        self.path(name).exists()
-    }
-
-    fn write(&self, name: &str, bytes: &[u8]) {
-        let path = self.path(name);
-        let folder = path.parent().expect("a folder of the file");
-        fs::create_dir_all(folder).expect("a folder to make");
-        fs::write(&path, bytes).expect("a file to write");
-    }
-
-    fn remove(&self, name: &str) {
-        fs::remove_file(self.path(name)).expect("a file to remove");
-    }
-
-    /// Copies a file of the repository, with the right to run it where it has that.
-    fn copy(&self, from: &str, to: &str) {
-        self.write(to, b"");
-        let from = Path::new(env!("CARGO_MANIFEST_DIR")).join("..").join(from);
-        fs::copy(&from, self.path(to)).expect("a file of the repository to copy");
-    }
-
-    /// Writes a program in sh.
-    fn stand_in(&self, name: &str, text: &str) {
-        let text = format!("#!/bin/sh\nroot='{}'\n{text}", self.root.display());
-        self.write(name, text.as_bytes());
-        self.set_mode(name, 0o755);
-    }
-
-    fn set_mode(&self, name: &str, mode: u32) {
-        let mode = fs::Permissions::from_mode(mode);
-        fs::set_permissions(self.path(name), mode).expect("a file whose mode can be set");
-    }
-
-    fn set_modified(&self, name: &str, time: SystemTime) {
-        let file = File::options().append(true).open(self.path(name));
-        let set = file.and_then(|file| file.set_modified(time));
-        set.expect("a file whose time can be set");
     }
 
     /// What the stand-in for `rt` does, in sh.
@@ -147,46 +71,11 @@ impl Place {
         self.program("cat \"$root/program-says\"");
     }
 
-    /// Starts a script in the folder. Its standard input has nothing, if the redirection does not say else.
+    /// Starts a script in the folder.
     fn start(&self, script: &str, words: &[&str], redirection: &str, path: &str) -> Child {
-        let output = |name: &str| File::create(self.path(name)).expect("a file for the output");
-        Command::new("sh")
-            .arg("-c")
-            .arg(format!("exec \"$0\" \"$@\" {redirection}"))
-            .arg(script)
-            .args(words)
-            .current_dir(&self.root)
-            .env("PATH", path)
-            .stdin(Stdio::null())
-            .stdout(output("stdout"))
-            .stderr(output("stderr"))
-            .process_group(0)
-            .spawn()
-            .expect("a script that can be started")
-    }
-
-    /// Waits for the end of a script; kills it, with all that it started, after the time it may take.
-    fn end(&self, mut child: Child) -> Ended {
-        let start = Instant::now();
-        let status = loop {
-            if let Some(status) = child.try_wait().expect("a child to wait for") {
-                break status;
-            }
-            if start.elapsed() > TIME {
-                let group = format!("-{}", child.id());
-                let killed = Command::new("kill").args(["-9", "--", &group]).status();
-                assert!(killed.is_ok_and(|status| status.success()));
-                child.wait().expect("a killed child");
-                panic!("the script ran for more than {TIME:?}");
-            }
-            thread::sleep(Duration::from_millis(1));
-        };
-        let read = |name: &str| fs::read_to_string(self.path(name)).expect("readable output");
-        Ended {
-            status: status.code(),
-            stdout: read("stdout"),
-            stderr: read("stderr"),
-        }
+        let mut command = self.command(script, redirection);
+        let started = command.args(words).env("PATH", path).spawn();
+        started.expect("a script that can be started")
     }
 
     /// Runs a script with a given PATH, with no trace of earlier runs.
@@ -216,22 +105,6 @@ impl Place {
     /// What the program had as its standard input in the last run.
     fn got(&self) -> Vec<u8> {
         fs::read(self.path("program-got")).expect("the input of a program that ran")
-    }
-}
-
-impl Ended {
-    /// The answer of a program that was up to date: this status, this standard output, and no message.
-    fn answers(&self, status: i32, stdout: &str) {
-        let due = (Some(status), stdout, "");
-        let found = (self.status, self.stdout.as_str(), self.stderr.as_str());
-        assert_eq!(found, due);
-    }
-
-    /// An error: status 2, nothing on standard output, and a message that has this.
-    fn is_error(&self, message: &str) {
-        assert_eq!(self.status, Some(2), "{self:?}");
-        assert_eq!(self.stdout, "", "{self:?}");
-        assert!(self.stderr.contains(message), "no {message:?}: {self:?}");
     }
 }
 
