@@ -1,4 +1,4 @@
-"""report.py LINES TABLE PLOT: writes the tables (Markdown) and the plot (SVG) of the lines that measure printed."""
+"""report.py LINES TABLE PLOT: writes the tables (Markdown) and the plot (SVG) of the lines that measure and over_files printed."""
 
 import sys
 
@@ -29,6 +29,17 @@ after the other in place of look-ups in the four tables. The body of one functio
 is the same; it names the S-box for each block, which is about a hundredth of its instructions. Scheme 4's keys are expanded by the
 tables in both. This form is proved like the library and
 has its turn like a baseline, and what it writes was compared in the same way.
+"""
+
+FILES = """The program, q = {q:,}: milliseconds by the clock, the best of {rounds} in one run of `rust/benches/over_files.rs`. The library's call has
+its arguments in memory and its buffers made. The command is all that the program does with it, in the same process: it takes its words
+apart, reads the files, checks the circuit, calls the library, writes files and gives them their names. The program is a process of
+its own for each time; its start is one that prints its version alone. Each has its turn in each round, one right after the other. What
+the command and the program wrote was compared with what the call wrote, byte for byte.
+"""
+
+COMPARISON = """The program's whole time for a comparison of two figures of 64 bits, `weighhare compare 1200 1500 --bits 64`, with its start in it: {program:.2f} ms;
+its start alone: {start:.2f} ms.
 """
 
 MACHINE = "Processor: {processor}. Compiler: {compiler}.\n"
@@ -98,6 +109,23 @@ def repeated_table(results):
     return table(["ns for a charged gate", "by its bytes", "by its gates already read", "gates : bytes"], rows)
 
 
+def files_table(results, q):
+    rows = []
+    for operation, scheme in CALLS:
+        key = (f"{operation} over files", scheme, q)
+        library, command, program, start = (f"{results.best(key, worker):.2f}" for worker in ("library", "command", "program", "start"))
+        ratio = compared(results, key, "command", "library")
+        rows.append([named(operation, scheme), library, command, ratio, program, start])
+    return table(["ms", "the library's call", "the command, in one process", "command : call", "the program, a process", "its start"], rows)
+
+
+def over_files(results, q):
+    comparison = ("compare over files", 3, 253)
+    bests = {worker: results.best(comparison, worker) for worker in ("program", "start")}
+    intro = FILES.format(q=q, rounds=counted(results.about["rounds"], "round"))
+    return ["## Over files", intro, files_table(results, q), COMPARISON.format(**bests)]
+
+
 def how(results):
     about = results.about
     parts = [HOW.format(rounds=counted(about["rounds"], "round"), runs=counted(about["runs"], "run"))]
@@ -117,6 +145,8 @@ def report(results):
     if ("repeated", 3, 4000) in results.times:
         parts += ["## One circuit, run a hundred times", "q = 4,000; the library, the same tokens and material each time.\n"]
         parts += [repeated_table(results)]
+    if ("garble over files", 3, largest) in results.times:
+        parts += over_files(results, largest)
     return "\n\n".join(part.strip() for part in parts) + "\n"
 
 

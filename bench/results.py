@@ -1,4 +1,4 @@
-"""The lines that measure prints, read: what a round took, and what can be said of the rounds of several runs."""
+"""The lines that measure and over_files print, read: what a round took, and what can be said of the rounds of several runs."""
 
 SCHEMES = {1: "GaX", 2: "GaXR", 3: "half-gates", 4: "re-keyed half-gates"}
 WORKERS = {"library": "the library", "chained": "the library, chained rounds", "tables": "C, AES by tables", "aesni": "C, AES-NI"}
@@ -8,7 +8,8 @@ CALLS = [(operation, scheme) for operation in ("garble", "evaluate") for scheme 
 
 class Results:
     """times[operation, scheme, q][worker]: ns for a charged gate (check: for a gate), a number for each round. Each run of measure
-    adds its rounds, in the same order for each worker."""
+    adds its rounds, in the same order for each worker. Of over_files the operation is "garble over files" and so on, and a number
+    is ms for all of it."""
 
     def __init__(self, path):
         self.times = {}
@@ -20,16 +21,17 @@ class Results:
     def read(self, words):
         if words[0] == "about":
             self.about[words[1]] = " ".join(words[2:])
-        if words[0] not in ("time", "instructions"):
+        if words[0] not in ("time", "files", "instructions"):
             return
-        key, worker = (words[1], int(words[2]), int(words[3])), words[4]
-        if words[0] == "time":
+        operation = f"{words[1]} over files" if words[0] == "files" else words[1]
+        key, worker = (operation, int(words[2]), int(words[3])), words[4]
+        if words[0] != "instructions":
             self.times.setdefault(key, {}).setdefault(worker, []).extend(float(word) for word in words[5:])
         else:
             self.instructions.setdefault(key, {})[worker] = int(words[5])
 
     def sizes(self):
-        return sorted({q for _, _, q in self.times if q})
+        return sorted({q for operation, _, q in self.times if operation == "check"})
 
     def workers(self):
         found = self.times["garble", 3, max(self.sizes())]

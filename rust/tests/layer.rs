@@ -97,6 +97,27 @@ fn plain_outputs_are_the_outputs_wires() {
     }
 }
 
+/// For either mark, and for lists of another length.
+#[test]
+fn the_outputs_tokens_are_those_that_the_library_gathers() {
+    for circuit in circuits() {
+        let sizes = circuit.sizes();
+        for length in [
+            0,
+            16,
+            sizes.wire_tokens_length() - 1,
+            sizes.wire_tokens_length(),
+            sizes.wire_tokens_length() + 16,
+        ] {
+            let wires: Vec<u8> = (0..length).map(|index| (index * 31 % 251) as u8).collect();
+            let mut due = vec![0; sizes.output_tokens_length()];
+            let answer = weighhare::output_tokens(circuit.bytes(), &wires, &mut due);
+            let found = circuit.output_tokens(&wires);
+            assert_eq!(found.map(Secret::into_vec), answer.map(|()| due));
+        }
+    }
+}
+
 #[test]
 fn encode_is_pick_for_each_input() {
     for circuit in circuits() {

@@ -2,7 +2,7 @@
 
 use crate::trouble::Trouble;
 use std::ffi::OsStr;
-use std::fs::File;
+use std::fs::{self, File};
 use std::io::{self, Read};
 use std::os::fd::AsFd;
 use weighhare::Secret;
@@ -22,7 +22,11 @@ pub struct Input {
 impl Input {
     /// The bytes of a file, or of standard input where it is `-`; `what` they are is for the message.
     pub fn read(&mut self, what: &str, file: &OsStr) -> Result<Vec<u8>, Trouble> {
-        self.read_secret(what, file).map(Secret::into_vec)
+        match usual(file) {
+            Some(bytes) => Ok(bytes),
+            // Anything else, and whatever went wrong, for which this has the message.
+            None => self.read_secret(what, file).map(Secret::into_vec),
+        }
     }
 
     /// As `read`, of what is secret: wiped when it is dropped, and no copy is left behind.
@@ -42,6 +46,16 @@ impl Input {
             whole(opened, first.min(LONGEST))
         });
         opened.map_err(|error| unread(what, &file.display().to_string(), &error))
+    }
+}
+
+/// A file of the usual kind and length, which is no secret: read into memory that need not be zeroed first.
+fn usual(file: &OsStr) -> Option<Vec<u8>> {
+    let found = fs::metadata(file).ok()?;
+    if file != "-" && found.is_file() && found.len() < LONGEST as u64 {
+        fs::read(file).ok()
+    } else {
+        None
     }
 }
 
