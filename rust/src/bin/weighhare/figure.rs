@@ -13,15 +13,19 @@ const FORM: &str = "a figure is FIGURE:BITS or @FILE:BITS: a number in decimal, 
 /// The most bits that a figure can have: a circuit has no more inputs.
 const MOST: u64 = 4096;
 
-/// The values of a figure in decimal, lowest bit first.
-pub fn values_of(word: &[u8], bits: usize, malformed: impl FnOnce() -> Trouble) -> Result<Secret, Trouble> {
+/// The values of a figure in decimal, lowest bit first. `what` it is, an option or a file, is for the message.
+pub fn values_of(what: &str, word: &[u8], bits: usize, malformed: impl FnOnce() -> Trouble) -> Result<Secret, Trouble> {
     if word.is_empty() || !word.iter().all(u8::is_ascii_digit) {
         return Err(malformed());
     }
-    // A number of more than 64 bits is none here, and fits nowhere.
-    let figure = decimal(word).ok_or_else(|| Trouble::Failed(format!("the figure does not fit in {bits} bits")))?;
     let mut values = Secret::zeroed(bits);
-    figure_values(figure, &mut values)?;
+    let put = match decimal(word) {
+        Some(figure) => figure_values(figure, &mut values).map_err(|error| error.to_string()),
+        // No figure here has more than 64 bits.
+        None if bits <= 64 => Err(format!("the figure does not fit in {bits} bits")),
+        None => Err("the figure has more than 64 bits".to_owned()),
+    };
+    put.map_err(|message| Trouble::Failed(format!("{what}: {message}")))?;
     Ok(values)
 }
 
@@ -36,10 +40,11 @@ pub fn figure_option(arguments: &Arguments, input: &mut Input, word: &OsStr) -> 
     match bytes[..colon].strip_prefix(b"@") {
         Some(file) => {
             let text = input.read_secret("a figure", OsStr::from_bytes(file))?;
-            let malformed = || Trouble::Failed("the figure's file has no number in decimal".to_owned());
-            values_of(text.trim_ascii(), bits, malformed)
+            let what = format!("{:?}", OsStr::from_bytes(file).display().to_string());
+            let malformed = || Trouble::Failed(format!("{what}: the figure's file has no number in decimal"));
+            values_of(&what, text.trim_ascii(), bits, malformed)
         }
-        None => values_of(&bytes[..colon], bits, malformed),
+        None => values_of("--figure", &bytes[..colon], bits, malformed),
     }
 }
 

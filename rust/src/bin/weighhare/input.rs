@@ -7,7 +7,7 @@ use std::io::{self, Read};
 use std::os::fd::AsFd;
 use weighhare::Secret;
 
-/// No file of an exchange has more than 5 MB. What has more than this is not read to its end: it may have none.
+/// No file of an exchange has more than 5 MB. What has as much as this is not read to its end: it may have none.
 const LONGEST: usize = 256 << 20;
 
 /// How much is read at first where a length is not known.
@@ -52,11 +52,17 @@ impl Input {
 /// A file of the usual kind and length, which is no secret: read into memory that need not be zeroed first.
 fn usual(file: &OsStr) -> Option<Vec<u8>> {
     let found = fs::metadata(file).ok()?;
-    if file != "-" && found.is_file() && found.len() < LONGEST as u64 {
-        fs::read(file).ok()
-    } else {
-        None
+    if file == "-" || !found.is_file() || found.len() >= LONGEST as u64 {
+        return None;
     }
+    // It may grow meanwhile, or say to be empty and be not, as some of the system's are.
+    let mut bytes = Vec::with_capacity(found.len() as usize + 1);
+    File::open(file)
+        .ok()?
+        .take(LONGEST as u64)
+        .read_to_end(&mut bytes)
+        .ok()?;
+    (bytes.len() < LONGEST).then_some(bytes)
 }
 
 /// Standard input past the buffer that the standard library has for it, which nobody would wipe.
@@ -77,7 +83,7 @@ fn whole(mut from: impl Read, first: usize) -> io::Result<Secret> {
         if length == bytes.len() {
             if length >= LONGEST {
                 return Err(io::Error::other(
-                    "it has more than 256 MiB, which no file of an exchange has",
+                    "it has 256 MiB or more, which no file of an exchange has",
                 ));
             }
             let mut larger = Secret::zeroed((2 * length).clamp(FIRST, LONGEST));

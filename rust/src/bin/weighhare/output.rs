@@ -5,6 +5,8 @@ use crate::trouble::Trouble;
 use std::ffi::OsStr;
 use std::fs::{self, File, OpenOptions};
 use std::io::{self, IsTerminal, Write};
+use std::os::fd::AsFd;
+use std::os::unix::ffi::OsStrExt;
 use std::os::unix::fs::OpenOptionsExt;
 use std::path::{Path, PathBuf};
 use std::process;
@@ -23,9 +25,10 @@ pub fn print(text: &str) -> Result<(), Trouble> {
     print_bytes(text.as_bytes())
 }
 
+/// Bytes to standard output, past the buffer that the standard library has for it, which nobody would wipe.
 fn print_bytes(bytes: &[u8]) -> Result<(), Trouble> {
-    let mut out = io::stdout().lock();
-    let printed = out.write_all(bytes).and_then(|()| out.flush());
+    let unbuffered = io::stdout().as_fd().try_clone_to_owned();
+    let printed = unbuffered.and_then(|out| File::from(out).write_all(bytes));
     printed.map_err(|error| Trouble::Failed(format!("cannot write to standard output: {error}")))
 }
 
@@ -73,10 +76,12 @@ impl<'a> Output<'a> {
                 continue;
             }
             match fs::symlink_metadata(target.file) {
-                Ok(found) if !(found.is_file() || found.is_symlink()) => {
+                Ok(found) if !found.is_file() => {
                     return Err(target.unwritten("it is there already and is no file"));
                 }
                 Ok(_) if !self.may_replace => return Err(target.unwritten(THERE)),
+                Err(error) if error.kind() != io::ErrorKind::NotFound => return Err(target.failed(&error)),
+                _ if !ends_in_a_name(target.file) => return Err(target.unwritten("it is no name for a file")),
                 _ => {}
             }
         }
@@ -147,6 +152,12 @@ impl Target<'_> {
     }
 }
 
+/// Whether a file's name ends in a name, and not in a slash or a dot.
+fn ends_in_a_name(file: &OsStr) -> bool {
+    let last = file.as_bytes().rsplit(|byte| *byte == b'/').next();
+    !matches!(last, None | Some(b"" | b"." | b".."))
+}
+
 /// The folder of a file; `.` where its name has none.
 fn folder(file: &Path) -> &Path {
     match file.parent() {
@@ -155,11 +166,11 @@ fn folder(file: &Path) -> &Path {
     }
 }
 
-/// Which file a name means: its folder, past all links, and its name there.
+/// Which file a name means: its folder, past all links, and its name there; standard output is none.
 fn place(file: &OsStr) -> (Option<PathBuf>, &OsStr) {
     let path = Path::new(file);
     match (fs::canonicalize(folder(path)), path.file_name()) {
-        (Ok(folder), Some(name)) => (Some(folder), name),
+        (Ok(folder), Some(name)) if file != "-" => (Some(folder), name),
         _ => (None, file),
     }
 }
@@ -173,8 +184,7 @@ struct Temporary {
 impl Temporary {
     fn new(target: &Target, bytes: &[u8], index: usize) -> io::Result<Self> {
         let file = PathBuf::from(target.file);
-        let path = folder(&file).join(format!(".weighhare-{}-{index}", process::id()));
-        let mut opened = create(&path, target.readers)?;
+        let (path, mut opened) = create_beside(&file, target.readers, index)?;
         let temporary = Self { path, file };
         opened.write_all(bytes)?;
         Ok(temporary)
@@ -197,6 +207,21 @@ impl Temporary {
         }
     }
 }
+
+/// A new file beside another. A process that was killed may have left one of the name that comes first.
+fn create_beside(file: &Path, readers: For, index: usize) -> io::Result<(PathBuf, File)> {
+    let mut attempt = 0;
+    loop {
+        let name = format!(".weighhare-{}-{index}-{attempt}", process::id());
+        let path = folder(file).join(name);
+        match create(&path, readers) {
+            Err(error) if error.kind() == io::ErrorKind::AlreadyExists && attempt < ATTEMPTS => attempt += 1,
+            created => return created.map(|opened| (path, opened)),
+        }
+    }
+}
+
+const ATTEMPTS: u32 = 100;
 
 /// A new file, for its readers from the start.
 fn create(path: &Path, readers: For) -> io::Result<File> {

@@ -2,7 +2,7 @@
 
 use crate::command::Command;
 use std::fmt;
-use weighhare::{FigureTooLarge, Refusal};
+use weighhare::Refusal;
 
 /// Why a command did not do its work. No text has a figure, a token or a byte of a seed: these are secret.
 pub enum Trouble {
@@ -34,12 +34,6 @@ impl Trouble {
 impl From<Refusal> for Trouble {
     fn from(refusal: Refusal) -> Self {
         Self::Refused(refusal)
-    }
-}
-
-impl From<FigureTooLarge> for Trouble {
-    fn from(error: FigureTooLarge) -> Self {
-        Self::Failed(error.to_string())
     }
 }
 

@@ -72,8 +72,8 @@ fn run(arguments: &Arguments) -> Result<(), Trouble> {
 /// The values of both figures.
 fn values(arguments: &Arguments, bits: usize) -> Result<Secret, Trouble> {
     let malformed = || arguments.wrong("a figure is a number in decimal");
-    let price = values_of(arguments.word(0).as_bytes(), bits, malformed)?;
-    let ceiling = values_of(arguments.word(1).as_bytes(), bits, malformed)?;
+    let price = values_of("PRICE", arguments.word(0).as_bytes(), bits, malformed)?;
+    let ceiling = values_of("CEILING", arguments.word(1).as_bytes(), bits, malformed)?;
     Ok(joined(&[price, ceiling]))
 }
 
