@@ -57,8 +57,8 @@
  * function's arguments moved. 0.7.0 adds circuits whose outputs are named, with the mark 43 49, which was refusal 2
  * before, refusals 25 and 26, and weighhare_output_tokens; no function's arguments moved. 0.8.0 adds weighhare_comparator
  * and refusal 21, which it alone gives, and the numbers 22 to 24, which nothing gives yet; no function's arguments moved.
- * 0.9.0 adds the lengths below, from weighhare_wire_tokens_length on, which stand in this header alone: the archive is that
- * of 0.8.0.
+ * 0.9.0 adds the lengths below, from weighhare_wire_tokens_length on, which stand in this header alone: the archive has
+ * the functions of 0.8.0.
  */
 #define WEIGHHARE_VERSION "0.9.0"
 

@@ -1,6 +1,6 @@
 -- Laws that the proofs of the functions cite.
 mod Joined
-mod Words
+pub mod Words
 mod Rounds
 mod Packing
 mod Tables

@@ -15,7 +15,7 @@ const NR: usize = 10;
 const POWERS_OF_X: [u8; 10] = [0x01, 0x02, 0x04, 0x08, 0x10, 0x20, 0x40, 0x80, 0x1b, 0x36];
 
 // Rcon[j]: {02}^(j - 1), and three bytes 0.
-fn round_constant(j: usize) -> [u8; 4]
+pub fn round_constant(j: usize) -> [u8; 4]
     requires { ⌜ 0 < j ⌝ }
     requires { ⌜ j < 11 ⌝ }
     ensures { λ r. ⌜ r ≡ rcon j ⌝ }
@@ -23,13 +23,13 @@ fn round_constant(j: usize) -> [u8; 4]
     [POWERS_OF_X[j - 1], 0, 0, 0]
 }
 
-fn xor_word(a: [u8; 4], b: [u8; 4]) -> [u8; 4]
+pub fn xor_word(a: [u8; 4], b: [u8; 4]) -> [u8; 4]
     ensures { λ r. ⌜ r ≡ xorWord a b ⌝ }
 {
     [a[0] ^ b[0], a[1] ^ b[1], a[2] ^ b[2], a[3] ^ b[3]]
 }
 
-fn rot_word(a: [u8; 4]) -> [u8; 4]
+pub fn rot_word(a: [u8; 4]) -> [u8; 4]
     ensures { λ r. ⌜ r ≡ rotWord a ⌝ }
 {
     [a[1], a[2], a[3], a[0]]
@@ -42,7 +42,7 @@ fn sub_word(t: &[u8; 256], a: [u8; 4]) -> [u8; 4]
     [sub(t, a[0]), sub(t, a[1]), sub(t, a[2]), sub(t, a[3])]
 }
 
-fn word(w: &[u8; 176], i: usize) -> [u8; 4]
+pub fn word(w: &[u8; 176], i: usize) -> [u8; 4]
     requires { ⌜ i < 44 ⌝ }
     ensures { λ r. ⌜ r ≡ word (now (w .entry)) i ⌝ }
 {
@@ -51,7 +51,7 @@ fn word(w: &[u8; 176], i: usize) -> [u8; 4]
 }
 
 // The schedule with a word written.
-fn put_word(w: [u8; 176], i: usize, x: [u8; 4]) -> [u8; 176]
+pub fn put_word(w: [u8; 176], i: usize, x: [u8; 4]) -> [u8; 176]
     requires { ⌜ i < 44 ⌝ }
     ensures { λ r. ⌜ r ≡ put w (4 * i) x ⌝ }
 {

@@ -1,0 +1,13 @@
+use borrow.Author.Needs.{needs}
+use Rattle.planes.proofs.Turns.{all-moved}
+use Rattle.planes.proofs.rotations.rotate.Statement.{statement}
+use Rattle.planes.proofs.rotations.rotate.Tie as tie
+
+returns : tie.Need-returns
+returns c = search all-moved
+
+pub rotate-spec : {M : Type 1} → statement M
+rotate-spec =
+    tie.close
+    (tie.spec (λ c κs. search needs) (λ c κs. search needs) (λ c κs. search needs) (λ c κs. search needs) (λ c κs. search needs) (λ c κs. search needs)
+    (λ c κs. search needs) (λ c κs. search needs) returns)

@@ -1,0 +1,99 @@
+// Eight words of bytes become planes, and back, by exchanges of bits between two words. On the way the words are held as planes are.
+use crate::planes::Planes;
+ghost use Rattle.planes.specs.Exchange.{Alternates, Swapped, Exchanged, Interleaved, Parted, Spread, Gathered};
+
+// Two words.
+struct Two {
+    u: u64,
+    v: u64,
+}
+
+// Bits of a change places with bits of b that stand s lower: those of a whose number has the digit s, a power of 2. The mask has a 1 for each
+// of these bits of b.
+fn swap(a: u64, b: u64, s: u32, mask: u64) -> Two
+    requires { ⌜ Alternates s mask ⌝ }
+    ensures { λ r. ⌜ Swapped s a b r ⌝ }
+{
+    let t = ((a >> s) ^ b) & mask;
+    Two {
+        u: a ^ (t << s),
+        v: b ^ t,
+    }
+}
+
+// The same of each word with an even number and the next: the digit s of a bit's number and the lowest digit of its word's change places.
+fn exchange(x: Planes, s: u32, mask: u64) -> Planes
+    requires { ⌜ Alternates s mask ⌝ }
+    ensures { λ r. ⌜ Exchanged s x r ⌝ }
+{
+    let a = swap(x.p0, x.p1, s, mask);
+    let b = swap(x.p2, x.p3, s, mask);
+    let c = swap(x.p4, x.p5, s, mask);
+    let d = swap(x.p6, x.p7, s, mask);
+    Planes {
+        p0: a.u,
+        p1: a.v,
+        p2: b.u,
+        p3: b.v,
+        p4: c.u,
+        p5: c.v,
+        p6: d.u,
+        p7: d.v,
+    }
+}
+
+// The first four words, and the others between them.
+fn interleave(x: Planes) -> Planes
+    ensures { λ r. ⌜ Interleaved x r ⌝ }
+{
+    Planes {
+        p0: x.p0,
+        p1: x.p4,
+        p2: x.p1,
+        p3: x.p5,
+        p4: x.p2,
+        p5: x.p6,
+        p6: x.p3,
+        p7: x.p7,
+    }
+}
+
+// The words with even numbers, then the others.
+fn part(x: Planes) -> Planes
+    ensures { λ r. ⌜ Parted x r ⌝ }
+{
+    Planes {
+        p0: x.p0,
+        p1: x.p2,
+        p2: x.p4,
+        p3: x.p6,
+        p4: x.p1,
+        p5: x.p3,
+        p6: x.p5,
+        p7: x.p7,
+    }
+}
+
+// Words to planes: one exchange for each of the six digits of a bit's number.
+pub fn spread(x: Planes) -> Planes
+    ensures { λ r. ⌜ Spread x r ⌝ }
+{
+    let a = exchange(x, 8, 0x00FF00FF00FF00FF);
+    let b = exchange(a, 16, 0x0000FFFF0000FFFF);
+    let c = exchange(b, 32, 0x00000000FFFFFFFF);
+    let d = exchange(c, 4, 0x0F0F0F0F0F0F0F0F);
+    let e = exchange(interleave(d), 2, 0x3333333333333333);
+    exchange(interleave(e), 1, 0x5555555555555555)
+}
+
+// Planes to words: the same backwards.
+pub fn gather(x: Planes) -> Planes
+    ensures { λ r. ⌜ Gathered x r ⌝ }
+{
+    let a = part(exchange(x, 1, 0x5555555555555555));
+    let b = part(exchange(a, 2, 0x3333333333333333));
+    let c = exchange(b, 4, 0x0F0F0F0F0F0F0F0F);
+    let d = exchange(c, 32, 0x00000000FFFFFFFF);
+    let e = exchange(d, 16, 0x0000FFFF0000FFFF);
+    exchange(e, 8, 0x00FF00FF00FF00FF)
+}
