@@ -6,8 +6,9 @@ use crate::program::calls::calls;
 use crate::program::folder::{difference, Folder};
 use crate::program::process::{program, run, run_to, shell};
 use std::fs::File;
-use std::io;
+use std::io::{self, PipeWriter, Write};
 use std::process::Stdio;
+use std::thread;
 
 /// Every call that prints, or writes an output to standard output, as words.
 fn printing() -> Vec<Vec<String>> {
@@ -40,10 +41,20 @@ fn a_full_device() {
     each_is_trouble(|| full().into(), "No space left");
 }
 
+/// The writing end of a pipe that nobody reads. A process that another test starts may have the reading end too, until it runs its
+/// own program: so this waits for it.
+fn closed_pipe() -> PipeWriter {
+    let (reader, mut writer) = io::pipe().expect("a pipe");
+    drop(reader);
+    while writer.write(&[0]).is_ok() {
+        thread::yield_now();
+    }
+    writer
+}
+
 #[test]
 fn a_closed_pipe() {
-    let closed = || io::pipe().expect("a pipe").1;
-    each_is_trouble(|| closed().into(), "Broken pipe");
+    each_is_trouble(|| closed_pipe().into(), "Broken pipe");
 }
 
 /// Bytes do not go to a terminal; text does. The master of a new terminal counts as one.

@@ -49,20 +49,16 @@ impl Input {
     }
 }
 
-/// A file of the usual kind and length, which is no secret: read into memory that need not be zeroed first.
+/// A file of the usual kind and length, which is no secret: read into memory that need not be zeroed first. A length of 0 is what
+/// the system's own files say, of which some have no end.
 fn usual(file: &OsStr) -> Option<Vec<u8>> {
     let found = fs::metadata(file).ok()?;
-    if file == "-" || !found.is_file() || found.len() >= LONGEST as u64 {
-        return None;
+    let is_usual = found.is_file() && (1..LONGEST as u64).contains(&found.len());
+    if file != "-" && is_usual {
+        fs::read(file).ok()
+    } else {
+        None
     }
-    // It may grow meanwhile, or say to be empty and be not, as some of the system's are.
-    let mut bytes = Vec::with_capacity(found.len() as usize + 1);
-    File::open(file)
-        .ok()?
-        .take(LONGEST as u64)
-        .read_to_end(&mut bytes)
-        .ok()?;
-    (bytes.len() < LONGEST).then_some(bytes)
 }
 
 /// Standard input past the buffer that the standard library has for it, which nobody would wipe.
