@@ -109,6 +109,13 @@ def repeated_table(results):
     return table(["ns for a charged gate", "by its bytes", "by its gates already read", "gates : bytes"], rows)
 
 
+def both_row(results, scheme, q):
+    """Garble and evaluate together: the sums of the bests."""
+    keys = [(f"{operation} over files", scheme, q) for operation in ("garble", "evaluate")]
+    library, command, program = (sum(results.best(key, worker) for key in keys) for worker in ("library", "command", "program"))
+    return [f"both, scheme {scheme}", f"{library:.2f}", f"{command:.2f}", f"**{command / library:.2f}**", f"{program:.2f}", ""]
+
+
 def files_table(results, q):
     rows = []
     for operation, scheme in CALLS:
@@ -116,6 +123,7 @@ def files_table(results, q):
         library, command, program, start = (f"{results.best(key, worker):.2f}" for worker in ("library", "command", "program", "start"))
         ratio = compared(results, key, "command", "library")
         rows.append([named(operation, scheme), library, command, ratio, program, start])
+    rows += [both_row(results, scheme, q) for scheme in SCHEMES]
     return table(["ms", "the library's call", "the command, in one process", "command : call", "the program, a process", "its start"], rows)
 
 
