@@ -137,12 +137,20 @@ pub enum Refusal {
 
 impl Refusal {
     /// The refusal's number: 1 to 26. Nothing gives 22 to 24 yet.
+    ///
+    /// ```
+    /// assert_eq!(weighhare::Refusal::Code { wire: 3 }.number(), 7);
+    /// ```
     pub fn number(self) -> u8 {
         self.number_and_place().0
     }
 
     /// The refusal's place: a length, a wire number, an output's number, an index, an offset, a width or a line, by its
     /// number.
+    ///
+    /// ```
+    /// assert_eq!(weighhare::Refusal::Code { wire: 3 }.place(), 3);
+    /// ```
     pub fn place(self) -> usize {
         self.number_and_place().1
     }
@@ -180,6 +188,14 @@ impl Refusal {
 
     /// The refusal of that number at that place, if there is one: a wire number and an output's have 16 bits, a scheme 8,
     /// and 2, 3, 13, 15 and 23 have one place each.
+    ///
+    /// ```
+    /// use weighhare::Refusal;
+    ///
+    /// let refusal = Refusal::from_number(7, 3).expect("a refusal");
+    /// assert_eq!(refusal.to_string(), "gate 3 has a code that is neither charged nor free");
+    /// assert_eq!(Refusal::from_number(27, 0), None);
+    /// ```
     pub fn from_number(number: u8, place: usize) -> Option<Self> {
         let short = u16::try_from(place).ok();
         let refusal = match number {

@@ -31,12 +31,7 @@ pub struct Secret(Vec<u8>);
 
 impl Secret {
     /// So many zeros, to be written to.
-    ///
-    /// ```
-    /// assert_eq!(weighhare::Secret::zeroed(3)[..], [0; 3]);
-    /// ```
-    #[must_use]
-    pub fn zeroed(length: usize) -> Self {
+    pub(crate) fn zeroed(length: usize) -> Self {
         Self(vec![0; length])
     }
 

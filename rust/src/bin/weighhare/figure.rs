@@ -18,7 +18,7 @@ pub fn values_of(what: &str, word: &[u8], bits: usize, malformed: impl FnOnce() 
     if word.is_empty() || !word.iter().all(u8::is_ascii_digit) {
         return Err(malformed());
     }
-    let mut values = Secret::zeroed(bits);
+    let mut values = Secret::from(vec![0; bits]);
     let put = match decimal(word) {
         Some(figure) => figure_values(figure, &mut values).map_err(|error| error.to_string()),
         // No figure here has more than 64 bits.
@@ -63,7 +63,7 @@ pub fn all_values(arguments: &Arguments, input: &mut Input) -> Result<Secret, Tr
 
 /// Lists one after the other.
 pub fn joined(lists: &[Secret]) -> Secret {
-    let mut all = Secret::zeroed(lists.iter().map(|list| list.len()).sum());
+    let mut all = Secret::from(vec![0; lists.iter().map(|list| list.len()).sum()]);
     let mut rest = &mut all[..];
     for list in lists {
         let (front, after) = rest.split_at_mut(list.len());

@@ -73,7 +73,7 @@ fn unread(what: &str, file: &str, error: &io::Error) -> Trouble {
 
 /// All bytes that there are. Where there are more than there is room for, they move to twice the room, and the old is wiped.
 fn whole(mut from: impl Read, first: usize) -> io::Result<Secret> {
-    let mut bytes = Secret::zeroed(first);
+    let mut bytes = Secret::from(vec![0; first]);
     let mut length = 0;
     loop {
         if length == bytes.len() {
@@ -82,7 +82,7 @@ fn whole(mut from: impl Read, first: usize) -> io::Result<Secret> {
                     "it has 256 MiB or more, which no file of an exchange has",
                 ));
             }
-            let mut larger = Secret::zeroed((2 * length).clamp(FIRST, LONGEST));
+            let mut larger = Secret::from(vec![0; (2 * length).clamp(FIRST, LONGEST)]);
             larger[..length].copy_from_slice(&bytes);
             bytes = larger;
         }
