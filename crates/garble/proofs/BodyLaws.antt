@@ -24,7 +24,7 @@ use Rattle.garble.specs.declared.plan.Plan.{Plan}
 use Rattle.garble.specs.Walk.{WalkOf, GatesIs, ColoursStart, BodyStart, BodyIs}
 use Rattle.garble.proofs.WalkLaws.{front-long, zeros-long}
 
-module _ (c seed : List ℕ) (want : Wanted) (plan : Plan) (w : List ℕ) (walk : WalkOf c seed want plan w)
+module _ (c seed : List ℕ) (want : Wanted) (plan : Plan) (walk : WalkOf c seed want plan)
     (s : Sizes) (m z : List ℕ) (start : BodyStart c seed want s m z) where
   is-m : s .m ≡ outputs c
   is-m = Sized.is-m c s (start .sized)

@@ -7,8 +7,8 @@ use mathlib.Core.Bool.{Bool, true, false, cond}
 use borrow.Author.Tests.{ne-eqb, eqb-true, eqb-false}
 use lib.Dec.{eqb}
 use Rattle.model.specs.Bytes.{put}
-use Rattle.model.specs.Aes.{Block, cipher}
-use Rattle.model.specs.Tokens.{runBlock}
+use Rattle.model.specs.Aes.{Block}
+use Rattle.model.specs.Circuit.{charged, charge, kindOf}
 use Rattle.model.specs.Scheme as Model
 use Rattle.model.specs.Gax.{dualKey, valueAt, sealed, rowAt}
 use Rattle.model.specs.Gaxr.{reducedZero, gaxr}
@@ -18,22 +18,14 @@ use Rattle.model.specs.Garbling.{schemeOf}
 use Rattle.model.specs.Calls.{garbledCalls}
 use Rattle.model.proofs.Calls.{garbled-four}
 use Rattle.model.proofs.Places.{stored-low, stored-high}
-use Rattle.model.specs.declared.Wanted.{Wanted}
 use Rattle.block.specs.declared.Block as Struct
 use Rattle.scheme.specs.Garbled.{site, GarbledIs}
 use Rattle.scheme.specs.declared.Site.{Site}
 use Rattle.scheme.specs.declared.GarbledGate.{GarbledGate}
 use Rattle.garble.specs.declared.gate.GateIn.{GateIn}
 use Rattle.garble.specs.declared.plan.Plan.{Plan}
-use Rattle.garble.specs.Walk.{WriterRoom, writtenRecord, FreshIs, siteAt, ChargedStart, ChargedIs}
-
--- ---- fresh_block
-module _ (w : List ℕ) (want : Wanted) (g : ℕ) (r : Block) where
-  pub fresh-gax : r ≡ cipher w (runBlock (want .run) g) → FreshIs w want g r
-  fresh-gax e = record { if-gax = λ h. e }
-
-  pub fresh-other : (want .scheme ≡ 1 → ⊥) → FreshIs w want g r
-  fresh-other h = record { if-gax = λ e. absurd (h e) }
+use Rattle.garble.specs.Held.{FreshIs}
+use Rattle.garble.specs.Walk.{WriterRoom, writtenRecord, siteAt, ChargedStart, ChargedIs}
 
 -- ---- two sites that differ in `fresh` alone
 
@@ -78,35 +70,39 @@ module _ (k : ℕ) (h : k ≡ 1 → ⊥) (f : Block) (s : Model.Site) where
 abbrev Made : ℕ → Model.Site → GarbledGate → Type 0
 Made k s made = GarbledIs (schemeOf k) (garbledCalls k s) s made
 
--- what was garbled with what `fresh_block` gave is garbled as the site says
-module _ (w : List ℕ) (p : Plan) (f : Block) (g : GateIn) (made : GarbledGate) (fresh : FreshIs w (p .wanted) (g .own .0) f)
-    (is : Made (p .wanted .scheme) (refreshed f (siteAt w p g)) made) where
-  of-gax : p .wanted .scheme ≡ 1 → Made (p .wanted .scheme) (siteAt w p g) made
-  unfolding refreshed siteAt
-  of-gax e = rw (fresh .if-gax e) at is
+-- what was garbled with the block that scheme 1 asks for is garbled as the site says
+module _ (p : Plan) (f : Block) (g : GateIn) (made : GarbledGate) (u v x : ℕ) (is-charged : kindOf (g .code) ≡ charged u v x)
+    (fresh : FreshIs (p .seed .bytes) (p .wanted) (g .code) (g .own .0) f) (is : Made (p .wanted .scheme) (refreshed f (siteAt p g)) made) where
+  one-charge : charge (kindOf (g .code)) ≡ 1
+  one-charge = rw is-charged
 
-  of-other : (p .wanted .scheme ≡ 1 → ⊥) → Made (p .wanted .scheme) (siteAt w p g) made
+  of-gax : p .wanted .scheme ≡ 1 → Made (p .wanted .scheme) (siteAt p g) made
+  unfolding refreshed siteAt
+  of-gax e = rw (fresh .if-gax e one-charge) at is
+
+  of-other : (p .wanted .scheme ≡ 1 → ⊥) → Made (p .wanted .scheme) (siteAt p g) made
   of-other h =
       let k = p .wanted .scheme in
       record {
-        is-zero = is .is-zero ∙ other-zero k h f (siteAt w p g);
-        is-rows = is .is-rows ∙ other-rows k h f (siteAt w p g);
-        is-calls = is .is-calls ∙ garbled-four k (refreshed f (siteAt w p g)) ∙ sym (garbled-four k (siteAt w p g));
+        is-zero = is .is-zero ∙ other-zero k h f (siteAt p g);
+        is-rows = is .is-rows ∙ other-rows k h f (siteAt p g);
+        is-calls = is .is-calls ∙ garbled-four k (refreshed f (siteAt p g)) ∙ sym (garbled-four k (siteAt p g));
       }
 
-  gate-is : Made (p .wanted .scheme) (siteAt w p g) made
+  gate-is : Made (p .wanted .scheme) (siteAt p g) made
   gate-is = go (eqb (p .wanted .scheme) 1) refl
     where
-      go : (b : Bool) → eqb (p .wanted .scheme) 1 ≡ b → Made (p .wanted .scheme) (siteAt w p g) made
+      go : (b : Bool) → eqb (p .wanted .scheme) 1 ≡ b → Made (p .wanted .scheme) (siteAt p g) made
       go true e = of-gax (eqb-true (p .wanted .scheme) 1 e)
       go false e = of-other (eqb-false (p .wanted .scheme) 1 e)
 
--- ---- make_charged: at the gate g, by the plan p, with what `fresh_block` gave
-pub make-done : (w : List ℕ) (p : Plan) (f : Struct.Block) (g : GateIn) (made : GarbledGate) → FreshIs w (p .wanted) (g .own .0) (f .bytes)
+-- ---- make_charged: at the gate g, by the plan p
+pub make-done : (p : Plan) (f : Struct.Block) (g : GateIn) (made : GarbledGate) (u v x : ℕ) → kindOf (g .code) ≡ charged u v x
+    → FreshIs (p .seed .bytes) (p .wanted) (g .code) (g .own .0) (f .bytes)
     → (let s : Site = record { r = p .r; fresh = f; g = g .own; code = g .code; xa = g .xa; xb = g .xb } in Made (p .wanted .scheme) (site s) made)
-    → Made (p .wanted .scheme) (siteAt w p g) made
+    → Made (p .wanted .scheme) (siteAt p g) made
 unfolding site
-make-done w p f g made fresh is = gate-is w p (f .bytes) g made fresh (unfold refreshed siteAt in is)
+make-done p f g made u v x k fresh is = gate-is p (f .bytes) g made u v x k fresh (unfold refreshed siteAt in is)
 
 -- ---- garble_charged
 
@@ -119,10 +115,10 @@ module _ (scheme stored code u v x : ℕ) (m : List ℕ) (at : ℕ) (z : List �
     room = rw (start .is-stored) (omega (arith, start .record-room));
   }
 
-  pub charged-done : (w : List ℕ) (p : Plan) (g : GateIn) (made : GarbledGate) → Made scheme (siteAt w p g) made
+  pub charged-done : (p : Plan) (g : GateIn) (made : GarbledGate) → Made scheme (siteAt p g) made
       → (m′ z′ : List ℕ) → z′ ≡ put z slot (made .zero .bytes) → m′ ≡ put m at (writtenRecord (g .own .0) stored made)
-      → ChargedIs scheme (siteAt w p g) m at z slot m′ z′ (made .calls)
-  charged-done w p g made is m′ z′ is-z is-m = record {
+      → ChargedIs scheme (siteAt p g) m at z slot m′ z′ (made .calls)
+  charged-done p g made is m′ z′ is-z is-m = record {
     zeros-left = rw (is .is-zero) at is-z;
     material-left = is-m ∙ unfold writtenRecord siteAt in (rw (start .is-stored, is .is-rows));
     calls-made = is .is-calls;

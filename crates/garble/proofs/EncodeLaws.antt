@@ -3,30 +3,34 @@ use Prim.Native.Nat.{ℕ, zero, suc, _+_, _*_, _≤_, _<_}
 use native.Mathlib.Omega.{arith}
 use mathlib.Core.Path.{_≡_, refl, sym, ap, _∙_}
 use mathlib.Core.List.{List, [], _∷_}
-use lib.ListN.{length, getD, take, drop}
-use lib.Seq.{getD-drop}
+use lib.ListN.{length, getD, take, drop, length-drop}
+use lib.Seq.{getD-drop, length-take-le}
 use Rattle.model.specs.Bytes.{from, tabulate, over, put}
-use Rattle.model.specs.Aes.{Block, block}
+use Rattle.model.specs.Aes.{Block, _⊕_, times, block}
 use Rattle.model.specs.Material.{joinBlocks}
 use Rattle.model.specs.Evaluation.{cut, encode}
 use Rattle.model.proofs.Lists.{from-cong}
+use Rattle.model.proofs.Xor.{⊕-assoc, ⊕-comm, ⊕-self, ⊕-zero}
 use Rattle.model.proofs.Tokens.{block-length}
 use Rattle.model.proofs.Blocks.{Blocks, none, more, cut-at, cut-blocks}
 use Rattle.model.proofs.Filling.{Filling, fill-start, fill-turn, fill-end}
 use Rattle.garble.specs.Written.{inputToken, TokenRoom, EncodeStart}
 
--- ---- input_token
-module _ (v : ℕ) (z o : List ℕ) (i : ℕ) (x : Block) where
-  pub token-zero : v ≡ 0 → x ≡ take 16 (drop (16 * i) z) → x ≡ inputToken v z o i
-  unfolding inputToken
-  token-zero e f = rw e f
+-- ---- input_token: x and y are the two tokens, and e is their difference where the value is 1
+part-wide : (i : ℕ) (z : List ℕ) → 16 * i + 16 ≤ length z → length (take 16 (drop (16 * i) z)) ≡ 16
+part-wide i z h = length-take-le 16 (drop (16 * i) z) (omega (arith, length-drop (16 * i) z))
 
-  pub token-one : TokenRoom v z o i → (v ≡ 0 → ⊥) → x ≡ take 16 (drop (16 * i) o) → x ≡ inputToken v z o i
-  unfolding inputToken
-  token-one r h f =
-      let b = r .bit in
-      let e : v ≡ 1 = omega arith in
-      rw e f
+both-ways : (x y : Block) → length y ≡ 16 → x ⊕ x ⊕ y ≡ y
+both-ways x y h = sym (⊕-assoc x x y) ∙ rw (⊕-self x, ⊕-comm (block 0) y) (⊕-zero y h)
+
+pub token-chosen : (v : ℕ) (z o : List ℕ) (i : ℕ) (x y d e r : Block) → TokenRoom v z o i → x ≡ take 16 (drop (16 * i) z) → y ≡ take 16 (drop (16 * i) o)
+    → d ≡ x ⊕ y → e ≡ times v d → r ≡ x ⊕ e → r ≡ inputToken v z o i
+unfolding inputToken times
+token-chosen zero z o i x y d e r room is-x is-y is-d is-e is-r =
+    is-r ∙ rw (is-e, is-x) (⊕-zero (take 16 (drop (16 * i) z)) (part-wide i z (room .zeros)))
+token-chosen (suc zero) z o i x y d e r room is-x is-y is-d is-e is-r =
+    is-r ∙ rw (is-e, is-d, is-x, is-y) (both-ways (take 16 (drop (16 * i) z)) (take 16 (drop (16 * i) o)) (part-wide i o (room .ones)))
+token-chosen (suc (suc v)) z o i x y d e r room is-x is-y is-d is-e is-r = absurd (omega (arith, room .bit))
 
 -- ---- encode as a table
 

@@ -1,5 +1,6 @@
 -- Laws of the functions.
 pub mod PickLaws
+pub mod HeldLaws
 pub mod InputLaws
 pub mod EncodeLaws
 pub mod EncodeIsLaws

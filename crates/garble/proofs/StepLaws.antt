@@ -12,7 +12,7 @@ use Rattle.model.specs.declared.Wanted.{Wanted}
 use Rattle.model.specs.declared.Kind as Kinds
 use Rattle.model.specs.Bytes.{tabulate, put}
 use Rattle.model.specs.Circuit.{value, Kind, charged, free, refused, kindOf, charges, circuitOf, inputs, outputs, gates, gateAt, gateWire, wire}
-use Rattle.model.specs.Aes.{block, aes}
+use Rattle.model.specs.Aes.{Block, block}
 use Rattle.model.specs.Tokens.{garblingOf, seedBlock, offset, freeZero}
 use Rattle.model.specs.Scheme.{recordLength}
 use Rattle.model.specs.Garbling.{schemeOf, siteOf, zeroAt, zeroStep}
@@ -29,6 +29,7 @@ use Rattle.model.proofs.Blocks.{Blocks, blocks-length, join-at}
 use Rattle.model.proofs.Lengths.{input-zeros-blocks, zeros-blocks}
 use Rattle.model.proofs.Accepted.{GateHolds, accepted-header, accepted-gate}
 use Rattle.circuit.specs.Answers.{meaning}
+use Rattle.garble.specs.Held.{FreshIs}
 use Rattle.garble.specs.Walk.{zerosTo, siteAt, WalkOf, OperandsStart, GateInIs, StepStart, StepIs, ChargedStart, ChargedIs}
 use Rattle.garble.specs.declared.plan.Plan.{Plan}
 use Rattle.garble.specs.declared.gate.GateIn.{GateIn}
@@ -37,7 +38,7 @@ not-refused : (k : Kind) → Used k → k ≡ refused → ⊥
 not-refused _ used-charged e = let z : _≡_ {A = ℕ} 0 1 = cc in omega arith
 not-refused _ used-free e = let z : _≡_ {A = ℕ} 0 1 = cc in omega arith
 
-module _ (c seed : List ℕ) (want : Wanted) (plan : Plan) (w : List ℕ) (walk : WalkOf c seed want plan w) where
+module _ (c seed : List ℕ) (want : Wanted) (plan : Plan) (walk : WalkOf c seed want plan) where
   offset-is : plan .r .bytes ≡ offset (garblingOf c seed want)
   unfolding offset seedBlock
   offset-is = walk .plan-is .is-offset
@@ -82,9 +83,13 @@ module _ (c seed : List ℕ) (want : Wanted) (plan : Plan) (w : List ℕ) (walk 
       own-is : g .own .0 ≡ suc (length (zerosTo c seed want k))
       own-is = is-g .is-own ∙ omega (arith, blocks-length (zeros-many k), walk .plan-is .is-n)
 
-      site-is : siteAt w plan g ≡ siteOf (garblingOf c seed want) (zerosTo c seed want k) (gateAt c k)
-      unfolding siteAt siteOf seedBlock aes
-      site-is = rw (walk .is-schedule, walk .plan-is .is-wanted, offset-is, own-is, is-g .is-code, xa-is, xb-is)
+      site-is : siteAt plan g ≡ siteOf (garblingOf c seed want) (zerosTo c seed want k) (gateAt c k)
+      unfolding siteAt siteOf seedBlock
+      site-is = rw (walk .plan-is .is-seed, walk .plan-is .is-wanted, offset-is, own-is, is-g .is-code, xa-is, xb-is)
+
+      -- the block that scheme 1 asks for, by the gate as it was read
+      pub step-fresh : (s : Block) (y : Wanted) (f : Block) → FreshIs s y (gateAt c k .code) (gateWire (plan .n) k) f → FreshIs s y (g .code) (g .own .0) f
+      step-fresh s y f fresh = rw (is-g .is-code, is-g .is-own) fresh
 
       -- the kind as `code_kind` gave it
       module _ (kind : Kinds.Kind) (is-kind : meaning kind ≡ kindOf (g .code)) where
@@ -112,7 +117,7 @@ module _ (c seed : List ℕ) (want : Wanted) (plan : Plan) (w : List ℕ) (walk 
           }
 
           pub step-charged : (m′ z′ : List ℕ) (calls : ℕ)
-              → ChargedIs (want .scheme) (siteAt w plan g) m at z (16 * (plan .n + k)) m′ z′ calls
+              → ChargedIs (want .scheme) (siteAt plan g) m at z (16 * (plan .n + k)) m′ z′ calls
               → StepIs c seed want k at m z (at + plan .stride) calls m′ z′
           step-charged m′ z′ calls done = record {
             zeros-left = done .zeros-left ∙ rw (site-is, walk .plan-is .is-n) (unfold zeroStep zeroAt in (rw charged-is));
@@ -143,4 +148,4 @@ module _ (c seed : List ℕ) (want : Wanted) (plan : Plan) (w : List ℕ) (walk 
         pub step-refused : kind ≡ Kinds.Kind.Refused → StepIs c seed want k at m z at 0 m z
         step-refused e = absurd (not-refused _ (holds .used) (code-kind ∙ ap meaning e))
 
-pub ruleset step-cases = (step-operands, step-next, step-charged-start, step-charged, step-bits, step-slot, step-free, step-refused)
+pub ruleset step-cases = (step-operands, step-next, step-charged-start, step-fresh, step-charged, step-bits, step-slot, step-free, step-refused)

@@ -26,10 +26,12 @@ use Rattle.model.proofs.Blocks.{join-length}
 use Rattle.model.proofs.Lengths.{input-zeros-blocks, zero-tokens-blocks, zero-step-wide, header-length, record-length, records-length}
 use Rattle.model.proofs.OneMore.{records-snoc}
 use Rattle.model.proofs.Calls.{garble-calls-at, garble-calls-all, garble-calls-snoc}
-use Rattle.model.proofs.Accepted.{accepted-header}
+use Rattle.model.proofs.Accepted.{accepted-header, gates-inside}
 use Rattle.model.proofs.Filling.{over-block}
+use Rattle.garble.specs.Held.{HeldIs, GatesRoom}
 use Rattle.garble.specs.Walk.{zerosTo, WalkOf, StepStart, StepIs, GatesStart, GatesIs}
 use Rattle.garble.specs.declared.plan.Plan.{Plan}
+use Rattle.garble.specs.declared.seed.Held.{Held}
 use Rattle.garble.proofs.StepLaws.{zeros-many}
 
 -- the bytes of the material up to the last record of some gates, and of all zero tokens
@@ -45,9 +47,10 @@ zeros-long c seed want = join-length (rw tabulate-length at (zero-tokens-blocks 
 recordsTo : List ℕ → List ℕ → Wanted → ℕ → List ℕ
 recordsTo c seed want k = records (garblingOf c seed want) (tabulate k (gateAt c)) (inputZeros (garblingOf c seed want))
 
--- k gates are done, by so many encryptions: m and z were m₀ and z₀ at the start
-pub record Walking (c seed : List ℕ) (want : Wanted) (q : ℕ) (m₀ z₀ : List ℕ) (k at calls : ℕ) (m z : List ℕ) : Type 0 where
+-- k gates are done, by so many encryptions, and h is held: m and z were m₀ and z₀ at the start
+pub record Walking (c seed : List ℕ) (want : Wanted) (q : ℕ) (m₀ z₀ : List ℕ) (h : Held) (k at calls : ℕ) (m z : List ℕ) : Type 0 where
   pub within : k ≤ q
+  pub held-is : HeldIs seed (want .run) h
   pub is-at : at ≡ lastStart (want .scheme) (charges (tabulate k (gateAt c)))
   pub material-length : length m ≡ length m₀
   pub zeros-length : length z ≡ length z₀
@@ -55,17 +58,18 @@ pub record Walking (c seed : List ℕ) (want : Wanted) (q : ℕ) (m₀ z₀ : Li
   zeros : z ≡ over (joinBlocks (zerosTo c seed want k)) z₀
   counted : calls ≡ garbleCalls (garblingOf c seed want) (tabulate k (gateAt c)) (inputZeros (garblingOf c seed want))
 
-module _ (c seed : List ℕ) (want : Wanted) (plan : Plan) (w : List ℕ) (walk : WalkOf c seed want plan w)
+module _ (c seed : List ℕ) (want : Wanted) (plan : Plan) (walk : WalkOf c seed want plan)
     (q : ℕ) (m₀ z₀ : List ℕ) (start : GatesStart c seed want q m₀ z₀) where
   -- a buffer whose front is p
   front : (p o : List ℕ) (k : ℕ) → length p ≡ k → take k o ≡ p → o ≡ over p o
   unfolding over
   front p o k l e = rw l (sym (ap (λ (x : List ℕ). x ++ drop k o) (sym e) ∙ take-append-drop k o))
 
-  pub walk-start : Walking c seed want q m₀ z₀ 0 9 0 m₀ z₀
+  pub walk-start : (h : Held) → HeldIs seed (want .run) h → Walking c seed want q m₀ z₀ h 0 9 0 m₀ z₀
   unfolding recordsTo records zerosTo wires charges circuitOf garbleCalls
-  walk-start = record {
+  walk-start h is-h = record {
     within = omega arith;
+    held-is = is-h;
     is-at = sym (start-first (want .scheme) (gateAt c));
     material-length = refl;
     zeros-length = refl;
@@ -76,10 +80,16 @@ module _ (c seed : List ℕ) (want : Wanted) (plan : Plan) (w : List ℕ) (walk 
     counted = refl;
   }
 
-  module _ (k at calls : ℕ) (m z : List ℕ) (inv : Walking c seed want q m₀ z₀ k at calls m z) where
+  -- the gates can be read ahead
+  pub walk-ahead : GatesRoom c (plan .n) q
+  walk-ahead =
+      let header-holds = accepted-header c (walk .accepted) in
+      record { room = omega (arith, gates-inside c header-holds, start .is-q); few = omega (arith, header-holds .sizes .sum, start .is-q, walk .plan-is .is-n) }
+
+  module _ (h : Held) (k at calls : ℕ) (m z : List ℕ) (inv : Walking c seed want q m₀ z₀ h k at calls m z) where
     pub walk-end : q ≤ k → GatesIs c seed want m₀ z₀ m z calls
     unfolding recordsTo zerosTo zeroTokens circuitOf
-    walk-end h =
+    walk-end l =
         let e : k ≡ gates c = omega (arith, inv .within, start .is-q) in
         record { zeros-left = inv .zeros ∙ rw e; material-left = inv .material ∙ rw e; calls-made = inv .counted ∙ rw e }
 
@@ -94,7 +104,7 @@ module _ (c seed : List ℕ) (want : Wanted) (plan : Plan) (w : List ℕ) (walk 
         is-at = inv .is-at;
         file-room = omega (arith, start .file-room, inv .material-length);
         wires-room = omega (arith, start .wires-room, inv .zeros-length);
-        so-far = rw (inv .zeros) (take-at (joinBlocks (zerosTo c seed want k)) _ (16 * (inputs c + k)) (join-length (zeros-many c seed want plan w walk k)));
+        so-far = rw (inv .zeros) (take-at (joinBlocks (zerosTo c seed want k)) _ (16 * (inputs c + k)) (join-length (zeros-many c seed want plan walk k)));
       }
 
       -- the record of gate k fits
@@ -154,7 +164,7 @@ module _ (c seed : List ℕ) (want : Wanted) (plan : Plan) (w : List ℕ) (walk 
         zeros-next =
             done .zeros-left
             ∙ rw (inv .zeros, add-one, tabulate-snoc k (gateAt c), wires-snoc (zeroStep (garblingOf c seed want)) (tabulate k (gateAt c)) (gateAt c k) (inputZeros (garblingOf c seed want)))
-            (over-block (zeros-many c seed want plan w walk k) token z₀ token-wide (omega (arith, below, start .wires-room)))
+            (over-block (zeros-many c seed want plan walk k) token z₀ token-wide (omega (arith, below, start .wires-room)))
 
         counted-next : calls + made ≡ garbleCalls (garblingOf c seed want) (tabulate (k + 1) (gateAt c)) (inputZeros (garblingOf c seed want))
         unfolding zerosTo
@@ -162,10 +172,11 @@ module _ (c seed : List ℕ) (want : Wanted) (plan : Plan) (w : List ℕ) (walk 
             rw (add-one, tabulate-snoc k (gateAt c), garble-calls-snoc (garblingOf c seed want) (tabulate k (gateAt c)) (gateAt c k) (inputZeros (garblingOf c seed want)))
             (ap₂ (λ (x y : ℕ). x + y) (inv .counted) (done .calls-made))
 
-        pub walk-turn : Walking c seed want q m₀ z₀ (k + 1) next (calls + made) m′ z′
+        pub walk-turn : (held : Held) → HeldIs seed (want .run) held → Walking c seed want q m₀ z₀ held (k + 1) next (calls + made) m′ z′
         unfolding piece token
-        walk-turn = record {
+        walk-turn held is-held = record {
           within = omega arith;
+          held-is = is-held;
           is-at = done .is-next ∙ rw (inv .is-at) (sym (start-next (want .scheme) (gateAt c) k));
           material-length =
               ap length (done .material-left) ∙ put-length m at piece (omega (arith, piece-long, record-room, inv .material-length)) ∙ inv .material-length;
@@ -176,4 +187,4 @@ module _ (c seed : List ℕ) (want : Wanted) (plan : Plan) (w : List ℕ) (walk 
           counted = counted-next;
         }
 
-pub ruleset walk-cases = (walk-start, walk-step, walk-calls, walk-turn, walk-end)
+pub ruleset walk-cases = (walk-start, walk-ahead, walk-step, walk-calls, walk-turn, walk-end)

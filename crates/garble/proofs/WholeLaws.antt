@@ -9,7 +9,7 @@ use Rattle.model.specs.declared.Sizes.{Sizes}
 use Rattle.model.specs.declared.Wanted.{Wanted}
 use Rattle.model.specs.Bytes.{over}
 use Rattle.model.specs.Circuit.{charges, circuitOf, inputs, outputs, gates}
-use Rattle.model.specs.Aes.{Block, IsExpansion, keyExpansion, aes}
+use Rattle.model.specs.Aes.{Block, IsExpansion}
 use Rattle.model.specs.Tokens.{garblingOf, seedBlock, offset, inputZeros, oneToken}
 use Rattle.model.specs.Garbling.{zeroTokens, inputOnes}
 use Rattle.model.specs.Material.{joinBlocks, materialLength, header, material}
@@ -21,6 +21,8 @@ use Rattle.model.proofs.Blocks.{join-length}
 use Rattle.model.proofs.Lengths.{input-zeros-blocks, header-length, material-length}
 use Rattle.circuit.proofs.AcceptedLaws as Sized
 use Rattle.garble.specs.declared.plan.Plan.{Plan}
+use Rattle.planes.specs.Sliced.{IsSliced}
+use Rattle.garble.specs.Held.{SeedPlanes}
 use Rattle.garble.specs.Written.{inputZero}
 use Rattle.garble.specs.Walk.{PlanIs, WalkOf, FrontStart, FrontIs, BodyStart, BodyIs}
 use Rattle.garble.specs.Whole.{WholeStart, WholeIs}
@@ -44,46 +46,49 @@ module _ (c seed : List ℕ) (want : Wanted) (s : Sizes) (m z o : List ℕ) (sta
     ones-room = omega (arith, start .inputs-room, is-n);
   }
 
-  -- the seed as a block, its schedule, and the plan, as they were made
-  module _ (k w : List ℕ) (plan : Plan) (is-k : k ≡ take 16 (drop 0 seed)) (expanded : IsExpansion k w) (is-plan : PlanIs k want (s .n) plan) where
-    -- a seed is its own front
+  -- a seed is its own front, and its schedule is put in planes
+  own-front : (k : Block) → k ≡ take 16 (drop 0 seed) → k ≡ seed
+  own-front k is-k = is-k ∙ take-all 16 seed (omega (arith, start .seed-length))
+
+  pub whole-planes : (k : Block) → k ≡ take 16 (drop 0 seed) → (w ks : List ℕ) → IsExpansion k w → IsSliced (λ b. w) ks → SeedPlanes k ks
+  whole-planes k is-k w ks expanded sliced = rw (expansion-only (ap length (own-front k is-k) ∙ start .seed-length) expanded) at sliced
+
+  -- the seed as a block, and the plan, as they were made
+  module _ (k : List ℕ) (plan : Plan) (is-k : k ≡ take 16 (drop 0 seed)) (is-plan : PlanIs k want (s .n) plan) where
     is-seed : k ≡ seed
-    is-seed = is-k ∙ take-all 16 seed (omega (arith, start .seed-length))
+    is-seed = own-front k is-k
+
+    pub whole-seed : (ks : List ℕ) → SeedPlanes k ks → SeedPlanes (plan .seed .bytes) ks
+    whole-seed ks h = rw (is-plan .is-seed) h
 
     offset-is : plan .r .bytes ≡ offset (garblingOf c seed want)
     unfolding offset seedBlock
     offset-is = is-plan .is-offset ∙ rw is-seed
 
-    is-w : w ≡ keyExpansion k
-    is-w = expansion-only (ap length is-seed ∙ start .seed-length) expanded
-
-    schedule : w ≡ keyExpansion seed
-    schedule = is-w ∙ ap keyExpansion is-seed
-
-    pub whole-walk : WalkOf c (plan .seed .bytes) (plan .wanted) plan w
+    pub whole-walk : WalkOf c (plan .seed .bytes) (plan .wanted) plan
     whole-walk = go _ _ (is-plan .is-seed) (is-plan .is-wanted)
       where
-        go : (x : List ℕ) (y : Wanted) → x ≡ k → y ≡ want → WalkOf c x y plan w
-        go x y e f = rw (e, f) (record { accepted = start .sized .accepted; known = start .known; plan-is = rw (← is-n) is-plan; is-schedule = is-w })
+        go : (x : List ℕ) (y : Wanted) → x ≡ k → y ≡ want → WalkOf c x y plan
+        go x y e f = rw (e, f) (record { accepted = start .sized .accepted; known = start .known; plan-is = rw (← is-n) is-plan })
 
     pub whole-front : FrontStart (plan .n) m z o
     whole-front = rw (is-plan .is-n) front-start
 
     -- the fronts as they were written
-    module _ (m1 z1 o1 : List ℕ) (front : FrontIs w plan (s .n) (s .m) (s .q) m z o m1 z1 o1) where
+    module _ (m1 z1 o1 : List ℕ) (front : FrontIs plan (s .n) (s .m) (s .q) m z o m1 z1 o1) where
       header-is : m1 ≡ over (header (garblingOf c seed want)) m
       unfolding header circuitOf
       header-is = front .header-is ∙ rw (is-plan .is-wanted, is-n, is-m, is-q, outputs-many c, tabulate-length)
 
       zeros-are : z1 ≡ over (joinBlocks (inputZeros (garblingOf c seed want))) z
-      unfolding inputZeros seedBlock aes circuitOf inputZero
-      zeros-are = front .inputs-are .zeros-left ∙ rw (schedule, is-plan .is-wanted, is-plan .is-n, is-n)
+      unfolding inputZeros seedBlock circuitOf inputZero
+      zeros-are = front .inputs-are .zeros-left ∙ rw (is-plan .is-seed, is-seed, is-plan .is-wanted, is-plan .is-n, is-n)
 
       ones-are : o1 ≡ over (joinBlocks (inputOnes (garblingOf c seed want))) o
-      unfolding inputOnes inputZeros oneToken seedBlock aes circuitOf inputZero
+      unfolding inputOnes inputZeros oneToken seedBlock circuitOf inputZero
       ones-are =
           front .inputs-are .ones-left
-          ∙ rw (offset-is, schedule, is-plan .is-wanted, is-plan .is-n, is-n)
+          ∙ rw (offset-is, is-plan .is-seed, is-seed, is-plan .is-wanted, is-plan .is-n, is-n)
           (ap (λ (l : List Block). over (joinBlocks l) o) (sym (tabulate-map (oneToken (garblingOf c seed want)) (inputs c) (λ i. seedBlock (garblingOf c seed want) (i + 1)))))
 
       inputs-long : length (joinBlocks (inputZeros (garblingOf c seed want))) ≡ 16 * inputs c

@@ -7,7 +7,7 @@ use Rattle.model.specs.declared.Sizes.{Sizes}
 use Rattle.model.specs.declared.Wanted.{Wanted}
 use Rattle.model.specs.Bytes.{tabulate, over, put, two}
 use Rattle.model.specs.Circuit.{charged, charge, charges, kindOf, circuitOf, inputs, outputs, gates, gateAt, gateWire, wires}
-use Rattle.model.specs.Aes.{Block, cipher, keyExpansion, aes}
+use Rattle.model.specs.Aes.{Block, aes}
 use Rattle.model.specs.Tokens.{garblingOf, coloured, runBlock, inputZeros}
 use Rattle.model.specs.Scheme.{Site, recordLength}
 use Rattle.model.specs.Garbling.{Known, schemeOf, siteOf, zeroStep, zeroTokens}
@@ -32,12 +32,11 @@ pub record PlanIs (seed : Block) (want : Wanted) (n : ℕ) (p : Plan) : Type 0 w
   pub is-n : p .n ≡ n
   pub is-offset : p .r .bytes ≡ coloured (aes seed (runBlock (want .run) 0))
 
--- the garbling that the walk is of: an accepted circuit, the plan for it, and the schedule w of the seed
-pub record WalkOf (c seed : List ℕ) (want : Wanted) (p : Plan) (w : List ℕ) : Type 0 where
+-- the garbling that the walk is of: an accepted circuit, and the plan for it
+pub record WalkOf (c seed : List ℕ) (want : Wanted) (p : Plan) : Type 0 where
   pub accepted : circuitVerdict c ≡ fine
   pub known : Known (want .scheme)
   pub plan-is : PlanIs seed want (inputs c) p
-  pub is-schedule : w ≡ keyExpansion seed
 
 -- ---- a charged gate
 
@@ -52,15 +51,11 @@ pub record WriterRoom (at stored : ℕ) (m : List ℕ) : Type 0 where
   pub high : stored ≤ 4
   pub room : at + 4 + 16 * stored ≤ length m
 
--- r is the seed's block of wire g, where the scheme asks for it
-pub record FreshIs (w : List ℕ) (want : Wanted) (g : ℕ) (r : Block) : Type 0 where
-  pub if-gax : want .scheme ≡ 1 → r ≡ cipher w (runBlock (want .run) g)
-
--- what garbling by a plan knows at a gate as it was read, under the seed's schedule w
-unfoldable pub siteAt : List ℕ → Plan → GateIn → Site
-siteAt w p g = record {
+-- what garbling by a plan knows at a gate as it was read
+unfoldable pub siteAt : Plan → GateIn → Site
+siteAt p g = record {
   R = p .r .bytes;
-  fresh = cipher w (runBlock (p .wanted .run) (g .own .0));
+  fresh = aes (p .seed .bytes) (runBlock (p .wanted .run) (g .own .0));
   g = g .own .0;
   code = g .code;
   Xa = g .xa .bytes;
@@ -145,8 +140,8 @@ pub record FrontStart (n : ℕ) (m z o : List ℕ) : Type 0 where
   pub zeros-room : 16 * n ≤ length z
   pub ones-room : 16 * n ≤ length o
 
-pub record FrontIs (w : List ℕ) (p : Plan) (n outs q : ℕ) (m z o m′ z′ o′ : List ℕ) : Type 0 where
-  pub inputs-are : InputsIs w p z o z′ o′
+pub record FrontIs (p : Plan) (n outs q : ℕ) (m z o m′ z′ o′ : List ℕ) : Type 0 where
+  pub inputs-are : InputsIs p z o z′ o′
   pub header-is : m′ ≡ over (0x47 ∷ 0x48 ∷ p .wanted .scheme ∷ two n ++ two outs ++ two q) m
 
 -- ---- the gates and the last record

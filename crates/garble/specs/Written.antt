@@ -4,7 +4,7 @@ use mathlib.Core.Path.{_≡_}
 use mathlib.Core.List.{List, [], _∷_}
 use lib.ListN.{length, getD, take, drop}
 use Rattle.model.specs.Bytes.{tabulate, over}
-use Rattle.model.specs.Aes.{Block, _⊕_, cipher, block}
+use Rattle.model.specs.Aes.{Block, _⊕_, aes, block}
 use Rattle.model.specs.Tokens.{runBlock}
 use Rattle.model.specs.Material.{joinBlocks}
 use Rattle.garble.specs.declared.plan.Plan.{Plan}
@@ -14,14 +14,14 @@ pub record InputsRoom (n : ℕ) (z o : List ℕ) : Type 0 where
   pub zeros : 16 * n ≤ length z
   pub ones : 16 * n ≤ length o
 
--- the zero token of input i, from 0, by a plan, under the seed's schedule w
-unfoldable pub inputZero : List ℕ → Plan → ℕ → Block
-inputZero w p i = cipher w (runBlock (p .wanted .run) (i + 1))
+-- the zero token of input i, from 0, by a plan
+unfoldable pub inputZero : Plan → ℕ → Block
+inputZero p i = aes (p .seed .bytes) (runBlock (p .wanted .run) (i + 1))
 
 -- the zero and the one tokens of all inputs: z, o at entry and z′, o′ at exit
-pub record InputsIs (w : List ℕ) (p : Plan) (z o z′ o′ : List ℕ) : Type 0 where
-  pub zeros-left : z′ ≡ over (joinBlocks (tabulate (p .n) (inputZero w p))) z
-  pub ones-left : o′ ≡ over (joinBlocks (tabulate (p .n) (λ i. inputZero w p i ⊕ p .r .bytes))) o
+pub record InputsIs (p : Plan) (z o z′ o′ : List ℕ) : Type 0 where
+  pub zeros-left : z′ ≡ over (joinBlocks (tabulate (p .n) (inputZero p))) z
+  pub ones-left : o′ ≡ over (joinBlocks (tabulate (p .n) (λ i. inputZero p i ⊕ p .r .bytes))) o
 
 -- ---- encoding
 

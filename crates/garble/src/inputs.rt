@@ -11,18 +11,18 @@ use block::Block;
 use block::load;
 use block::store;
 use model::Truth;
+use scheme::times_truth;
 
-// The token of input i, from 0, in the zero list for value 0, in the one list for value 1.
+// The token of input i, from 0: that of the zero list for value 0, and that of the one list for value 1. Both are read, and the value chooses by a
+// mask: no branch and no address goes by it.
 fn input_token(value: Truth, zeros: &[u8], ones: &[u8], i: usize) -> Block
     requires { ⌜ TokenRoom (value .0) (now zeros) (now ones) i ⌝ }
     ensures { λ r. ⌜ r .bytes ≡ inputToken (value .0) (now (zeros .entry)) (now (ones .entry)) i ⌝ }
 {
     let at = 16 * i;
-    if value.0 == 0 {
-        load(zeros, at)
-    } else {
-        load(ones, at)
-    }
+    let x = load(zeros, at);
+    let y = load(ones, at);
+    x.xor(times_truth(x.xor(y), value))
 }
 
 // The tokens of all inputs.

@@ -18,6 +18,7 @@ use model::Wanted;
 use model::Wire;
 
 pub mod arguments;
+pub mod fresh;
 pub mod gate;
 pub mod inputs;
 pub mod last;

@@ -1,8 +1,7 @@
 // What the walk over the gates goes by, made once for a garbling.
-ghost use mathlib.Core.Path.{_≡_};
-ghost use Rattle.model.specs.Aes.{IsSBox, keyExpansion};
+ghost use Rattle.garble.specs.Held.{SeedPlanes};
 ghost use Rattle.garble.specs.Walk.{PlanIs};
-use crate::seed::seed_block;
+use crate::seed::hold;
 use block::Block;
 use material::record_length;
 use material::rows_stored;
@@ -18,15 +17,15 @@ pub struct Plan {
     pub r: Block,
 }
 
-// The plan for a seed, whose schedule is ws, for what is wanted of it and for a circuit of n inputs.
-pub fn plan_of(t: &[u8; 256], ws: &[u8; 176], seed: Block, wanted: Wanted, n: usize) -> Plan
-    requires { ⌜ IsSBox (now t) ⌝ }
-    requires { ⌜ now ws ≡ keyExpansion (seed .bytes) ⌝ }
+// The plan for a seed, whose schedule in planes is ks, for what is wanted of it and for a circuit of n inputs.
+pub fn plan_of(ks: &[u64; 88], seed: Block, wanted: Wanted, n: usize) -> Plan
+    requires { ⌜ SeedPlanes (seed .bytes) (now ks) ⌝ }
     ensures { λ r. ⌜ PlanIs (seed .bytes) wanted n r ⌝ }
 {
     let stored = rows_stored(wanted.scheme);
     let stride = record_length(wanted.scheme);
-    let r = seed_block(t, ws, wanted.run, 0).coloured();
+    let held = hold(ks, wanted.run, 0, 1, 2, 3);
+    let r = held.blocks.a.coloured();
     Plan {
         wanted,
         seed,

@@ -1,11 +1,14 @@
 // A charged gate, garbled into the buffers: its zero token and its record (01, Material).
 ghost use mathlib.Core.Path.{_≡_};
 ghost use Rattle.model.specs.Bytes.{put};
-ghost use Rattle.aes.specs.Lent.{Lent};
+ghost use Rattle.model.specs.Aes.{IsSBox};
+ghost use Rattle.scheme.specs.Garbled.{FixedPlanes};
+ghost use Rattle.garble.specs.Held.{FreshIs};
 ghost use Rattle.garble.specs.Walk.{WriterRoom, writtenRecord, siteAt, ChargedStart, ChargedIs};
 use crate::gate::GateIn;
 use crate::gate::make_charged;
 use crate::plan::Plan;
+use block::Block;
 use block::store;
 use material::writers::write_record_head;
 use model::Truth;
@@ -58,25 +61,27 @@ pub fn write_record(material: &mut [u8], at: usize, own: Wire, stored: usize, g:
 
 // A charged gate: its zero token goes to a slot of the zeros, its record to a place in the material. Answers the encryptions made.
 pub fn garble_charged(
-    tables: &[u32; 1024],
-    w: &[u8; 176],
-    ws: &[u8; 176],
+    k: &[u64; 88],
+    t: &[u8; 256],
     plan: Plan,
     g: GateIn,
     u: Truth,
     v: Truth,
     own: Truth,
+    fresh: Block,
     material: &mut [u8],
     at: usize,
     zeros: &mut [u8],
     slot: usize,
 ) -> usize
-    requires { ⌜ Lent (now tables) (now w) ⌝ }
+    requires { ⌜ FixedPlanes (now k) ⌝ }
+    requires { ⌜ IsSBox (now t) ⌝ }
     requires { ⌜ ChargedStart (plan .wanted .scheme) (plan .stored) (g .code) (u .0) (v .0) (own .0) (now material) at (now zeros) slot ⌝ }
-    ensures { λ r. ⌜ ChargedIs (plan .wanted .scheme) (siteAt (now (ws .entry)) plan g) (now (material .entry)) at (now (zeros .entry)) slot (now (material .exit)) (now (zeros .exit)) r ⌝ }
+    requires { ⌜ FreshIs (plan .seed .bytes) (plan .wanted) (g .code) (g .own .0) (fresh .bytes) ⌝ }
+    ensures { λ r. ⌜ ChargedIs (plan .wanted .scheme) (siteAt plan g) (now (material .entry)) at (now (zeros .entry)) slot (now (material .exit)) (now (zeros .exit)) r ⌝ }
 {
     let wire = g.own;
-    let made = make_charged(tables, w, ws, plan, g, u, v, own);
+    let made = make_charged(k, t, plan, g, u, v, own, fresh);
     store(zeros, slot, made.zero);
     write_record(material, at, wire, plan.stored, made);
     made.calls

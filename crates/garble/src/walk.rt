@@ -1,9 +1,15 @@
 // The walk over the gates: each gets its zero token, and a charged one its record (01, Scheme 1 to 3 and Material).
-ghost use Rattle.aes.specs.Lent.{Lent};
+ghost use Rattle.model.specs.Aes.{IsSBox};
+ghost use Rattle.model.specs.Circuit.{gateAt, gateWire};
+ghost use Rattle.scheme.specs.Garbled.{FixedPlanes};
+ghost use Rattle.garble.specs.Held.{SeedPlanes, FreshIs};
 ghost use Rattle.garble.specs.Walk.{OperandsStart, GateInIs, WalkOf, StepStart, StepIs, GatesStart, GatesIs};
+use crate::fresh::fresh_block;
 use crate::gate::GateIn;
 use crate::plan::Plan;
 use crate::records::garble_charged;
+use crate::seed::hold;
+use block::Block;
 use block::load;
 use block::store;
 use circuit::code::code_kind;
@@ -36,20 +42,22 @@ pub struct Stepped {
     pub calls: usize,
 }
 
-// One gate: what it adds to the zeros and to the material, at a place. A free gate makes no encryption.
+// One gate: what it adds to the zeros and to the material, at a place. A free gate makes no encryption. kp is the schedule of π's key in planes.
 pub fn garble_step(
-    tables: &[u32; 1024],
-    w: &[u8; 176],
-    ws: &[u8; 176],
+    kp: &[u64; 88],
+    t: &[u8; 256],
     plan: Plan,
     circuit: &[u8],
     k: usize,
+    fresh: Block,
     material: &mut [u8],
     at: usize,
     zeros: &mut [u8],
 ) -> Stepped
-    requires { ⌜ Lent (now tables) (now w) ⌝ }
-    requires { ⌜ WalkOf (now circuit) (plan .seed .bytes) (plan .wanted) plan (now ws) ⌝ }
+    requires { ⌜ FixedPlanes (now kp) ⌝ }
+    requires { ⌜ IsSBox (now t) ⌝ }
+    requires { ⌜ WalkOf (now circuit) (plan .seed .bytes) (plan .wanted) plan ⌝ }
+    requires { ⌜ FreshIs (plan .seed .bytes) (plan .wanted) (gateAt (now circuit) k .code) (gateWire (plan .n) k) (fresh .bytes) ⌝ }
     requires { ⌜ StepStart (now circuit) (plan .seed .bytes) (plan .wanted) k at (now material) (now zeros) ⌝ }
     ensures { λ r. ⌜ StepIs (now (circuit .entry)) (plan .seed .bytes) (plan .wanted) k at (now (material .entry)) (now (zeros .entry)) (r .at) (r .calls) (now (material .exit)) (now (zeros .exit)) ⌝ }
 {
@@ -58,20 +66,7 @@ pub fn garble_step(
     let slot = 16 * (n + k);
     match code_kind(g.code) {
         Kind::Charged(u, v, own) => {
-            let calls = garble_charged(
-                tables,
-                w,
-                ws,
-                plan,
-                g,
-                u,
-                v,
-                own,
-                material,
-                at,
-                zeros,
-                slot,
-            );
+            let calls = garble_charged(kp, t, plan, g, u, v, own, fresh, material, at, zeros, slot);
             let at = at + plan.stride;
             Stepped { at, calls }
         }
@@ -83,30 +78,40 @@ pub fn garble_step(
     }
 }
 
-// All gates, after the inputs' zero tokens and the material's header. Answers the encryptions made, added up gate by gate.
+// All gates, after the inputs' zero tokens and the material's header; ks is the seed's schedule in planes. Answers the encryptions made, added up gate by gate.
 pub fn garble_gates(
-    tables: &[u32; 1024],
-    w: &[u8; 176],
-    ws: &[u8; 176],
+    kp: &[u64; 88],
+    t: &[u8; 256],
+    ks: &[u64; 88],
     plan: Plan,
     circuit: &[u8],
     q: usize,
     material: &mut [u8],
     zeros: &mut [u8],
 ) -> usize
-    requires { ⌜ Lent (now tables) (now w) ⌝ }
-    requires { ⌜ WalkOf (now circuit) (plan .seed .bytes) (plan .wanted) plan (now ws) ⌝ }
+    requires { ⌜ FixedPlanes (now kp) ⌝ }
+    requires { ⌜ IsSBox (now t) ⌝ }
+    requires { ⌜ SeedPlanes (plan .seed .bytes) (now ks) ⌝ }
+    requires { ⌜ WalkOf (now circuit) (plan .seed .bytes) (plan .wanted) plan ⌝ }
     requires { ⌜ GatesStart (now circuit) (plan .seed .bytes) (plan .wanted) q (now material) (now zeros) ⌝ }
     ensures { λ r. ⌜ GatesIs (now (circuit .entry)) (plan .seed .bytes) (plan .wanted) (now (material .entry)) (now (zeros .entry)) (now (material .exit)) (now (zeros .exit)) r ⌝ }
 {
+    let mut held = hold(ks, plan.wanted.run, 0, 1, 2, 3);
+    let mut fresh = plan.r;
     let mut k: usize = 0;
     let mut at: usize = 9;
     let mut calls: usize = 0;
     while k < q {
-        let step = garble_step(tables, w, ws, plan, circuit, k, material, at, zeros);
+        let next = k + 1;
+        if plan.wanted.scheme == 1 {
+            let taken = fresh_block(ks, plan, circuit, q, k, held);
+            held = taken.held;
+            fresh = taken.block;
+        }
+        let step = garble_step(kp, t, plan, circuit, k, fresh, material, at, zeros);
         at = step.at;
         calls += step.calls;
-        k += 1;
+        k = next;
     }
     calls
 }

@@ -1,9 +1,10 @@
 -- A law for each part of a gate: what its pieces are makes it what the scheme defines. Assumes nothing.
 use Prim.Native.Nat.{ℕ, _+_, _*_, _-_}
 use native.Mathlib.Omega.{arith}
-use mathlib.Core.Path.{_≡_, sym, ap, _∙_}
+use mathlib.Core.Path.{_≡_, refl, sym, ap, _∙_}
+use mathlib.Core.List.{List}
 use borrow.Author.Tests.{ne-eqb}
-use Rattle.model.specs.Aes.{Block, _⊕_, times, block, aes, π, double, quadruple}
+use Rattle.model.specs.Aes.{Block, _⊕_, times, block, keyExpansion, cipher, fixedKey, aes, π, double, quadruple}
 use Rattle.model.specs.Circuit.{value}
 use Rattle.model.specs.Tokens.{colour, freeZero}
 use Rattle.model.specs.Scheme.{Site}
@@ -12,8 +13,8 @@ use Rattle.model.specs.Gaxr.{reducedZero}
 use Rattle.model.specs.Hashes.{answered, hashBlock, hashCall, hash, sigma, rekeyedCall, rekeyedHash, hashCallOf, hashOf}
 use Rattle.model.specs.HalfGates.{joined}
 use Rattle.scheme.specs.declared.cipher.Answers.{Answers}
-use Rattle.scheme.specs.declared.hash.Hashes.{Hashes}
-use Rattle.scheme.specs.Garbled.{maskOf, AnswersAre, HashesAre}
+use Rattle.planes.specs.declared.packing.Four.{Four}
+use Rattle.scheme.specs.Garbled.{AnswersAre, HashedFour, HashesAre}
 use Rattle.model.proofs.Xor.{⊕-assoc, ⊕-zero, ⊕-length}
 
 -- the token of a colour: y is R where the token carries v = 1
@@ -36,11 +37,14 @@ pub dual-is : (a b : Block) (t : ℕ) (z x y k p u r : Block) → r ≡ p ⊕ u 
 unfolding dualKey keyBlock
 dual-is a b t z x y k p u r is-r is-p is-u is-k is-x is-y = rw (is-r, is-p, is-u, is-k, is-x, is-y)
 
--- what E exclusive-ors to a token
-pub mask-of : (a b : Block) (t : ℕ) (k p x : Block) → k ≡ a ⊕ b ⊕ block t → p ≡ π k → x ≡ p ⊕ k → x ≡ maskOf (a ⊕ b ⊕ block t)
-mask-of a b t k p x is-k is-p is-x = rw (is-x, is-p, is-k)
+-- a block enciphered, ⊕ itself: p is the block enciphered
+pub masked-is : (w : List ℕ) (x p r : Block) → r ≡ p ⊕ x → p ≡ cipher w x → r ≡ cipher w x ⊕ x
+masked-is w x p r is-r is-p = rw (is-r, is-p)
 
--- four times a token
+-- twice a token, and four times
+pub two-times : (x y z : Block) → y ≡ double x → x ≡ z → y ≡ double z
+two-times x y z is-y is-x = rw (is-y, is-x)
+
 pub four-times : (x y z : Block) → y ≡ quadruple x → x ≡ z → y ≡ quadruple z
 four-times x y z is-y is-x = rw (is-y, is-x)
 
@@ -49,15 +53,19 @@ pub opened-is : (a b row x : Block) (g c d t : ℕ) → x ≡ dualKey a b t row 
     → x ≡ dualKey a b (4 * g + 2 * colour a + colour b) row
 opened-is a b row x g c d t is-x is-t is-c is-d = rw (is-x, is-t, is-c, is-d)
 
+-- K of a row, by its tweak
+pub row-key-is : (g c d t : ℕ) (a b k : Block) → k ≡ a ⊕ b ⊕ block t → t ≡ 4 * g + 2 * c + d → k ≡ a ⊕ b ⊕ block (4 * g + 2 * c + d)
+row-key-is g c d t a b k is-k is-t = rw (is-k, is-t)
+
 -- E of block 0 under the tokens of colours c and d, from twice the one, a, and four times the other, b
-pub mask-is : (s : Site) (c d : ℕ) (a b x : Block) (t : ℕ) → x ≡ maskOf (a ⊕ b ⊕ block t) → a ≡ double (tokenOf (s .R) (s .Xa) c)
-    → b ≡ quadruple (tokenOf (s .R) (s .Xb) d) → t ≡ 4 * s .g + 2 * c + d → x ≡ sealed dualKey s c d (block 0)
-unfolding sealed dualKey keyBlock
-mask-is s c d a b x t is-x is-a is-b is-t =
+pub mask-is : (s : Site) (c d : ℕ) (a b k x : Block) → x ≡ cipher (keyExpansion fixedKey) k ⊕ k → k ≡ a ⊕ b ⊕ block (4 * s .g + 2 * c + d)
+    → a ≡ double (tokenOf (s .R) (s .Xa) c) → b ≡ quadruple (tokenOf (s .R) (s .Xb) d) → x ≡ sealed dualKey s c d (block 0)
+unfolding sealed dualKey keyBlock π aes
+mask-is s c d a b k x is-x is-k is-a is-b =
     let A = tokenOf (s .R) (s .Xa) c in
     let B = tokenOf (s .R) (s .Xb) d in
     let T : ℕ = 4 * s .g + 2 * c + d in
-    rw (is-x, is-a, is-b, is-t) (ap (λ (y : Block). π (keyBlock A B T) ⊕ y) (sym (⊕-zero (keyBlock A B T) (⊕-length (double A) (quadruple B ⊕ block T)))))
+    rw (is-x, is-k, is-a, is-b) (ap (λ (y : Block). π (keyBlock A B T) ⊕ y) (sym (⊕-zero (keyBlock A B T) (⊕-length (double A) (quadruple B ⊕ block T)))))
 
 -- E of z is that of block 0, ⊕ z
 masked : (a b : Block) (t : ℕ) (z : Block) → dualKey a b t (block 0) ⊕ z ≡ dualKey a b t z
@@ -93,6 +101,15 @@ pub rekeyed-is : (x : Block) (i : ℕ) (n k p h : Block) → n ≡ block i → k
 unfolding rekeyedHash rekeyedCall answered
 rekeyed-is x i n k p h is-n is-k is-p is-h = rw (is-h, is-p, is-n, is-k)
 
+-- the same of a block k enciphered, ⊕ itself
+pub hash-masked : (x : Block) (i : ℕ) (k h : Block) → h ≡ cipher (keyExpansion fixedKey) k ⊕ k → k ≡ hashBlock x i → h ≡ hash x i
+unfolding π aes
+hash-masked x i k h is-h is-k = hash-is x i k (π k) h is-k refl is-h
+
+pub rekeyed-masked : (x : Block) (i : ℕ) (n k h : Block) → h ≡ cipher (keyExpansion n) k ⊕ k → k ≡ sigma x → n ≡ block i → h ≡ rekeyedHash x i
+unfolding aes
+rekeyed-masked x i n k h is-h is-k is-n = rekeyed-is x i n k (aes n k) h is-n is-k refl is-h
+
 -- H of a scheme byte, 3 or 4, of two tokens
 module _ (scheme : ℕ) (x y : Block) (i j : ℕ) (r : Answers) where
   pub by-rekeyed : scheme ≡ 4 → AnswersAre (rekeyedHash x i) (rekeyedHash y j) r → AnswersAre (hashOf scheme x i) (hashOf scheme y j) r
@@ -103,19 +120,25 @@ module _ (scheme : ℕ) (x y : Block) (i j : ℕ) (r : Answers) where
   unfolding hashOf hashCallOf hash
   by-fixed n h = rw (ne-eqb scheme 4 n) h
 
--- and for a gate: x and y are A ⊕ R and B ⊕ R
-pub gate-hashed : (H : Block → ℕ → Block) (R A B x y : Block) (g : ℕ) (p q : Answers) (h : Hashes) → x ≡ A ⊕ R → y ≡ B ⊕ R →
-    AnswersAre (H A (2 * g)) (H x (2 * g)) p → AnswersAre (H B (2 * g + 1)) (H y (2 * g + 1)) q →
-    h ≡ record { a = p .x; ar = p .y; b = q .x; br = q .y; calls = p .calls + q .calls } → HashesAre H R A B g h
-gate-hashed H R A B x y g p q h is-x is-y is-p is-q is-h =
-    rw is-h
-    (record {
-      is-a = is-p .is-x;
-      is-ar = is-p .is-y ∙ ap (λ (z : Block). H z (2 * g)) is-x;
-      is-b = is-q .is-x;
-      is-br = is-q .is-y ∙ ap (λ (z : Block). H z (2 * g + 1)) is-y;
-      is-calls = omega (arith, is-p .is-calls, is-q .is-calls);
-    })
+-- and of four, for a gate: x and y are A ⊕ R and B ⊕ R
+module _ (scheme g : ℕ) (R A B x y : Block) (h : Four) (is-x : x ≡ A ⊕ R) (is-y : y ≡ B ⊕ R) where
+  pub gate-rekeyed : scheme ≡ 4 → HashedFour rekeyedHash A x (2 * g) B y (2 * g + 1) h → HashesAre (hashOf scheme) R A B g h
+  unfolding hashOf hashCallOf rekeyedHash
+  gate-rekeyed e f = rw (e, ← is-x, ← is-y) f
+
+  of-fixed : (scheme ≡ 4 → ⊥) → (z : Block) (i : ℕ) → hash z i ≡ hashOf scheme z i
+  unfolding hashOf hashCallOf hash
+  of-fixed n z i = rw (ne-eqb scheme 4 n)
+
+  pub gate-fixed : (scheme ≡ 4 → ⊥) → HashedFour hash A x (2 * g) B y (2 * g + 1) h → HashesAre (hashOf scheme) R A B g h
+  gate-fixed n f =
+      rw (← is-x, ← is-y)
+      (record {
+        is-a = f .is-a ∙ of-fixed n A (2 * g);
+        is-b = f .is-b ∙ of-fixed n x (2 * g);
+        is-c = f .is-c ∙ of-fixed n B (2 * g + 1);
+        is-d = f .is-d ∙ of-fixed n y (2 * g + 1);
+      })
 
 -- x and 1-u times R
 pub offset-is : (x r y a : Block) (u v : ℕ) → a ≡ x ⊕ y → y ≡ times v r → v ≡ 1 - u → a ≡ x ⊕ times (1 - u) r

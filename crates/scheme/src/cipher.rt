@@ -1,16 +1,17 @@
 // What schemes 1 and 2 seal tokens with, the dual-key cipher; and a bit times a block.
 use aes::permute_fast;
-use aes::permute_pair;
 use block::Block;
 use block::Halves;
 use model::Colour;
 use model::Truth;
+use planes::Four;
+use planes::encrypt_four;
 ghost use mathlib.Core.Path.{_≡_};
 ghost use Prim.Native.Nat.{_≤_};
 ghost use Rattle.aes.specs.Lent.{Lent};
 ghost use Rattle.model.specs.Aes.{_⊕_, times, block};
 ghost use Rattle.model.specs.Gax.{dualKey};
-ghost use Rattle.scheme.specs.Garbled.{maskOf, AnswersAre};
+ghost use Rattle.scheme.specs.Garbled.{Masked};
 
 // "A bit times a block is the block or zero" (01, Scheme 3): by a mask, since a colour is as good as random and a branch on it costs more.
 // Whoever multiplies has a truth value or a colour, and says so by the two functions below.
@@ -44,7 +45,7 @@ pub fn times_colour(b: Block, c: Colour) -> Block
 }
 
 // "K = 2A ⊕ 4B ⊕ T" (01, Scheme 1), from 2A and 4B.
-fn key_block(a: Block, b: Block, tweak: u64) -> Block
+pub fn key_block(a: Block, b: Block, tweak: u64) -> Block
     ensures { λ r. ⌜ r .bytes ≡ a .bytes ⊕ b .bytes ⊕ block tweak ⌝ }
 {
     a.xor(b.xor(Block::of_number(tweak)))
@@ -66,31 +67,22 @@ pub fn dual_key(
     permute_fast(tables, w, k).xor(k.xor(z))
 }
 
-// What E or H answers to two that are asked together, and the encryptions made for them.
+// What H answers to two that are asked together, and the encryptions made for them.
 pub struct Answers {
     pub x: Block,
     pub y: Block,
     pub calls: usize,
 }
 
-// E of block 0 under a token A with two tokens B, from 2A and the two 4B, which the four rows of a gate share. What is sealed is
-// exclusive-ored in afterwards. Two calls of π.
-pub fn dual_pair(
-    tables: &[u32; 1024],
-    w: &[u8; 176],
-    a: Block,
-    b: Block,
-    i: u64,
-    c: Block,
-    j: u64,
-) -> Answers
-    requires { ⌜ Lent (now tables) (now w) ⌝ }
-    ensures { λ r. ⌜ AnswersAre (maskOf (a .bytes ⊕ b .bytes ⊕ block i)) (maskOf (a .bytes ⊕ c .bytes ⊕ block j)) r ⌝ }
+// AES of four blocks at once, each with the block itself exclusive-ored in, under the schedules that k has in planes. It is what garbling
+// makes the masks of schemes 1 and 2 and both hashes of half-gates with: no look-up and no branch by a token.
+pub fn masked_four(k: &[u64; 88], x: Four) -> Four
+    ensures { λ r. ⌜ Masked (now (k .entry)) x r ⌝ }
 {
-    let k = key_block(a, b, i);
-    let l = key_block(a, c, j);
-    let p = permute_pair(tables, w, k, l);
-    let x = p.x.xor(k);
-    let y = p.y.xor(l);
-    Answers { x, y, calls: 2 }
+    let p = encrypt_four(k, x);
+    let a = p.a.xor(x.a);
+    let b = p.b.xor(x.b);
+    let c = p.c.xor(x.c);
+    let d = p.d.xor(x.d);
+    Four { a, b, c, d }
 }

@@ -3,9 +3,9 @@
 use crate::GarbledGate;
 use crate::OpenedGate;
 use crate::Site;
-use crate::cipher::Answers;
 use crate::cipher::dual_key;
-use crate::cipher::dual_pair;
+use crate::cipher::key_block;
+use crate::cipher::masked_four;
 use crate::cipher::times_truth;
 use block::Block;
 use block::decoded;
@@ -13,15 +13,16 @@ use circuit::code::code_value;
 use model::Colour;
 use model::Truth;
 use model::Wire;
+use planes::Four;
 ghost use mathlib.Core.Path.{_≡_};
 ghost use Prim.Native.Nat.{_+_, _*_, _≤_};
 ghost use Rattle.aes.specs.Lent.{Lent};
-ghost use Rattle.model.specs.Aes.{block, quadruple};
+ghost use Rattle.model.specs.Aes.{_⊕_, block, double, quadruple};
 ghost use Rattle.model.specs.Tokens.{colour};
 ghost use Rattle.model.specs.Gax.{dualKey, carried, tokenOf, valueAt, sealed, rowAt, gax};
 ghost use Rattle.model.specs.Gaxr.{reducedZero, gaxr};
 ghost use Rattle.model.specs.Calls.{sealings, sealingHeld};
-ghost use Rattle.scheme.specs.Garbled.{site, AnswersAre, GarbledIs, OpenedIs};
+ghost use Rattle.scheme.specs.Garbled.{site, FixedPlanes, MasksAre, GarbledIs, OpenedIs};
 
 // The truth value that the token of colour c carries on a wire of zero token x.
 fn carried(x: Block, c: Colour) -> Truth
@@ -64,19 +65,36 @@ fn quadrupled(s: Site, d: Colour) -> Block
     token_of(s.r, s.xb, d).quadrupled()
 }
 
-// E of block 0 under the operands' tokens of colours c,0 and of colours c,1: two calls of π. E of z is this ⊕ z. b and d are four times the
-// second operand's tokens.
-fn masks(tables: &[u32; 1024], w: &[u8; 176], s: Site, c: Colour, b: Block, d: Block) -> Answers
-    requires { ⌜ Lent (now tables) (now w) ⌝ }
+// Twice the token of colour c on the first operand.
+fn doubled(s: Site, c: Colour) -> Block
     requires { ⌜ c .0 ≤ 1 ⌝ }
-    requires { ⌜ b .bytes ≡ quadruple (tokenOf (s .r .bytes) (s .xb .bytes) 0) ⌝ }
-    requires { ⌜ d .bytes ≡ quadruple (tokenOf (s .r .bytes) (s .xb .bytes) 1) ⌝ }
-    ensures { λ r. ⌜ AnswersAre (sealed dualKey (site s) (c .0) 0 (block 0)) (sealed dualKey (site s) (c .0) 1 (block 0)) r ⌝ }
+    ensures { λ r. ⌜ r .bytes ≡ double (tokenOf (s .r .bytes) (s .xa .bytes) (c .0)) ⌝ }
 {
-    let a = token_of(s.r, s.xa, c).doubled();
-    let i = tweak(s.g, c, Colour(0));
-    let j = tweak(s.g, c, Colour(1));
-    dual_pair(tables, w, a, b, i, d, j)
+    token_of(s.r, s.xa, c).doubled()
+}
+
+// K of row 2c+d, from twice the first operand's token and four times the second's.
+fn row_key(g: Wire, a: Block, b: Block, c: Colour, d: Colour) -> Block
+    requires { ⌜ (c .0 ≤ 1) × (d .0 ≤ 1) ⌝ }
+    ensures { λ r. ⌜ r .bytes ≡ a .bytes ⊕ b .bytes ⊕ block (4 * g .0 + 2 * c .0 + d .0) ⌝ }
+{
+    key_block(a, b, tweak(g, c, d))
+}
+
+// E of block 0 for each of the four rows: four calls of π at once. E of z is this ⊕ z.
+fn masks(k: &[u64; 88], s: Site) -> Four
+    requires { ⌜ FixedPlanes (now k) ⌝ }
+    ensures { λ r. ⌜ MasksAre (site s) r ⌝ }
+{
+    let x = doubled(s, Colour(0));
+    let y = doubled(s, Colour(1));
+    let u = quadrupled(s, Colour(0));
+    let v = quadrupled(s, Colour(1));
+    let a = row_key(s.g, x, u, Colour(0), Colour(0));
+    let b = row_key(s.g, x, v, Colour(0), Colour(1));
+    let c = row_key(s.g, y, u, Colour(1), Colour(0));
+    let d = row_key(s.g, y, v, Colour(1), Colour(1));
+    masked_four(k, Four { a, b, c, d })
 }
 
 // Row 2c+d: the gate's token for its value, sealed by the mask of colours c and d. x is the gate's zero token.
@@ -90,26 +108,23 @@ fn row(s: Site, x: Block, c: Colour, d: Colour, mask: Block) -> Block
 }
 
 // Scheme 1: the zero token is AES under the seed of block g, and there are four rows, of one call of π each.
-pub fn garble_gax(tables: &[u32; 1024], w: &[u8; 176], s: Site) -> GarbledGate
-    requires { ⌜ Lent (now tables) (now w) ⌝ }
+pub fn garble_gax(k: &[u64; 88], s: Site) -> GarbledGate
+    requires { ⌜ FixedPlanes (now k) ⌝ }
     ensures { λ r. ⌜ GarbledIs (gax dualKey) (sealings (site s)) (site s) r ⌝ }
 {
     let zero = s.fresh;
-    let b = quadrupled(s, Colour(0));
-    let d = quadrupled(s, Colour(1));
-    let p = masks(tables, w, s, Colour(0), b, d);
-    let q = masks(tables, w, s, Colour(1), b, d);
-    let row0 = row(s, zero, Colour(0), Colour(0), p.x);
-    let row1 = row(s, zero, Colour(0), Colour(1), p.y);
-    let row2 = row(s, zero, Colour(1), Colour(0), q.x);
-    let row3 = row(s, zero, Colour(1), Colour(1), q.y);
+    let m = masks(k, s);
+    let row0 = row(s, zero, Colour(0), Colour(0), m.a);
+    let row1 = row(s, zero, Colour(0), Colour(1), m.b);
+    let row2 = row(s, zero, Colour(1), Colour(0), m.c);
+    let row3 = row(s, zero, Colour(1), Colour(1), m.d);
     GarbledGate {
         zero,
         row0,
         row1,
         row2,
         row3,
-        calls: p.calls + q.calls,
+        calls: 4,
     }
 }
 
@@ -123,25 +138,22 @@ fn reduced_zero(s: Site, mask: Block) -> Block
 }
 
 // Scheme 2: row 0, of colours 0,0, gives the zero token and is not stored; rows 1 to 3 are. Four calls of π.
-pub fn garble_gaxr(tables: &[u32; 1024], w: &[u8; 176], s: Site) -> GarbledGate
-    requires { ⌜ Lent (now tables) (now w) ⌝ }
+pub fn garble_gaxr(k: &[u64; 88], s: Site) -> GarbledGate
+    requires { ⌜ FixedPlanes (now k) ⌝ }
     ensures { λ r. ⌜ GarbledIs (gaxr dualKey) (sealings (site s)) (site s) r ⌝ }
 {
-    let b = quadrupled(s, Colour(0));
-    let d = quadrupled(s, Colour(1));
-    let p = masks(tables, w, s, Colour(0), b, d);
-    let q = masks(tables, w, s, Colour(1), b, d);
-    let zero = reduced_zero(s, p.x);
-    let row0 = row(s, zero, Colour(0), Colour(1), p.y);
-    let row1 = row(s, zero, Colour(1), Colour(0), q.x);
-    let row2 = row(s, zero, Colour(1), Colour(1), q.y);
+    let m = masks(k, s);
+    let zero = reduced_zero(s, m.a);
+    let row0 = row(s, zero, Colour(0), Colour(1), m.b);
+    let row1 = row(s, zero, Colour(1), Colour(0), m.c);
+    let row2 = row(s, zero, Colour(1), Colour(1), m.d);
     GarbledGate {
         zero,
         row0,
         row1,
         row2,
         row3: Block::of_number(0),
-        calls: p.calls + q.calls,
+        calls: 4,
     }
 }
 

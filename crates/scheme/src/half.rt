@@ -13,13 +13,13 @@ use model::Wire;
 ghost use mathlib.Core.Path.{_≡_};
 ghost use Prim.Native.Nat.{_-_, _≤_};
 ghost use Rattle.aes.specs.Lent.{Lent};
-ghost use Rattle.model.specs.Aes.{_⊕_, times};
+ghost use Rattle.model.specs.Aes.{_⊕_, times, IsSBox};
 ghost use Rattle.model.specs.Circuit.{charged, kindOf};
 ghost use Rattle.model.specs.Tokens.{colour};
 ghost use Rattle.model.specs.Hashes.{hashOf};
 ghost use Rattle.model.specs.HalfGates.{joined, half};
 ghost use Rattle.model.specs.Calls.{hashings, hashingsHeld};
-ghost use Rattle.scheme.specs.Garbled.{site, GarbledIs, OpenedIs};
+ghost use Rattle.scheme.specs.Garbled.{site, FixedPlanes, GarbledIs, OpenedIs};
 
 // 1-u, the other truth value.
 fn complement(u: Truth) -> Truth
@@ -55,25 +55,26 @@ fn join(ha: Block, hb: Block, g: Block, e: Block, a: Block, b: Block) -> Block
 
 // The rows G and E, by four encryptions. The pair u, v of truth values has a value of its own, own.
 pub fn garble_half(
-    tables: &[u32; 1024],
-    w: &[u8; 176],
+    k: &[u64; 88],
+    t: &[u8; 256],
     scheme: u8,
     s: Site,
     u: Truth,
     v: Truth,
     own: Truth,
 ) -> GarbledGate
-    requires { ⌜ Lent (now tables) (now w) ⌝ }
+    requires { ⌜ FixedPlanes (now k) ⌝ }
+    requires { ⌜ IsSBox (now t) ⌝ }
     requires { ⌜ kindOf (s .code) ≡ charged (u .0) (v .0) (own .0) ⌝ }
     ensures { λ r. ⌜ GarbledIs (half (hashOf scheme)) (hashings (site s)) (site s) r ⌝ }
 {
     let r = s.r;
     let a = offset_unless(s.xa, r, u);
     let b = offset_unless(s.xb, r, v);
-    let h = hash_gate(tables, w, scheme, r, a, b, s.g);
-    let row_g = half_row(h.a, h.ar, times_colour(r, b.colour()));
-    let row_e = half_row(h.b, h.br, a);
-    let x = join(h.a, h.b, row_g, row_e, a, b);
+    let h = hash_gate(k, t, scheme, r, a, b, s.g);
+    let row_g = half_row(h.a, h.b, times_colour(r, b.colour()));
+    let row_e = half_row(h.c, h.d, a);
+    let x = join(h.a, h.c, row_g, row_e, a, b);
     let zero = offset_unless(x, r, own);
     let none = Block::of_number(0);
     GarbledGate {
@@ -82,7 +83,7 @@ pub fn garble_half(
         row1: row_e,
         row2: none,
         row3: none,
-        calls: h.calls,
+        calls: 4,
     }
 }
 

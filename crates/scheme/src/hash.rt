@@ -1,18 +1,20 @@
-// The hashes of half-gates, of two tokens at a time: that of scheme 3 (01), under π's key, and that of scheme 4 (02, job 7), which is
-// re-keyed with each tweak. Two encryptions; key expansions are not counted.
+// The hashes of half-gates: that of scheme 3 (01), under π's key, and that of scheme 4 (02, job 7), which is re-keyed with each tweak. Garbling
+// hashes four tokens at once, in planes, and evaluating two, by the tables. An encryption each; key expansions are not counted.
 use crate::cipher::Answers;
+use crate::cipher::masked_four;
 use aes::encrypt_each_under;
-use aes::encrypt_pair_under;
 use aes::permute_pair;
 use block::Block;
 use model::Wire;
+use planes::Four;
+use planes::slice_pair;
 ghost use mathlib.Core.Path.{_≡_};
-ghost use Prim.Native.Nat.{_+_};
 ghost use Rattle.aes.specs.Lent.{Lent};
 ghost use Rattle.aes.specs.Tables.{IsTTables};
+ghost use Rattle.model.specs.Aes.{IsSBox};
 ghost use Rattle.model.specs.Hashes.{hashBlock, hash, rekeyedHash, hashOf};
 ghost use Rattle.model.specs.HalfGates.{generatorTweak, evaluatorTweak};
-ghost use Rattle.scheme.specs.Garbled.{AnswersAre, HashesAre};
+ghost use Rattle.scheme.specs.Garbled.{FixedPlanes, AnswersAre, HashedFour, HashesAre};
 
 // "2x ⊕ i" (01, Scheme 3).
 fn hash_block(x: Block, i: u64) -> Block
@@ -34,20 +36,7 @@ pub fn hash_pair(tables: &[u32; 1024], w: &[u8; 176], x: Block, i: u64, y: Block
     Answers { x, y, calls: 2 }
 }
 
-// "H(x,i) = AES under key i of σ(x), ⊕ σ(x)" (02, job 7), of two tokens under one tweak, whose key is expanded once.
-fn rekeyed_pair(tables: &[u32; 1024], x: Block, y: Block, i: u64) -> Answers
-    requires { ⌜ IsTTables (now tables) ⌝ }
-    ensures { λ r. ⌜ AnswersAre (rekeyedHash (x .bytes) i) (rekeyedHash (y .bytes) i) r ⌝ }
-{
-    let k = x.sigma();
-    let l = y.sigma();
-    let p = encrypt_pair_under(tables, Block::of_number(i), k, l);
-    let x = p.x.xor(k);
-    let y = p.y.xor(l);
-    Answers { x, y, calls: 2 }
-}
-
-// The same of two tokens under a tweak each.
+// "H(x,i) = AES under key i of σ(x), ⊕ σ(x)" (02, job 7), of two tokens.
 fn rekeyed_each(tables: &[u32; 1024], x: Block, i: u64, y: Block, j: u64) -> Answers
     requires { ⌜ IsTTables (now tables) ⌝ }
     ensures { λ r. ⌜ AnswersAre (rekeyedHash (x .bytes) i) (rekeyedHash (y .bytes) j) r ⌝ }
@@ -60,59 +49,69 @@ fn rekeyed_each(tables: &[u32; 1024], x: Block, i: u64, y: Block, j: u64) -> Ans
     Answers { x, y, calls: 2 }
 }
 
-// What garbling hashes for a gate: A and A⊕R, B and B⊕R; and the encryptions made for them.
-pub struct Hashes {
-    pub a: Block,
-    pub ar: Block,
-    pub b: Block,
-    pub br: Block,
-    pub calls: usize,
+// Scheme 3's hash of two tokens under i and of two under j: four encryptions at once.
+fn fixed_four(k: &[u64; 88], a: Block, x: Block, i: u64, b: Block, y: Block, j: u64) -> Four
+    requires { ⌜ FixedPlanes (now k) ⌝ }
+    ensures { λ h. ⌜ HashedFour hash (a .bytes) (x .bytes) i (b .bytes) (y .bytes) j h ⌝ }
+{
+    let u = hash_block(a, i);
+    let v = hash_block(x, i);
+    let w = hash_block(b, j);
+    let z = hash_block(y, j);
+    masked_four(
+        k,
+        Four {
+            a: u,
+            b: v,
+            c: w,
+            d: z,
+        },
+    )
 }
 
-// Two pairs, the first of A, the second of B.
-fn four(p: Answers, q: Answers) -> Hashes
-    requires { ⌜ (p .calls ≡ 2) × (q .calls ≡ 2) ⌝ }
-    ensures { λ h. ⌜ h ≡ record { a = p .x; ar = p .y; b = q .x; br = q .y; calls = p .calls + q .calls } ⌝ }
+// Scheme 4's. The two keys are tweaks, which are public: the S-box in t is looked up for them, and for nothing else.
+fn rekeyed_four(t: &[u8; 256], a: Block, x: Block, i: u64, b: Block, y: Block, j: u64) -> Four
+    requires { ⌜ IsSBox (now t) ⌝ }
+    ensures { λ h. ⌜ HashedFour rekeyedHash (a .bytes) (x .bytes) i (b .bytes) (y .bytes) j h ⌝ }
 {
-    let a = p.x;
-    let ar = p.y;
-    let b = q.x;
-    let br = q.y;
-    let calls = p.calls + q.calls;
-    Hashes {
-        a,
-        ar,
-        b,
-        br,
-        calls,
-    }
+    let k = slice_pair(t, Block::of_number(i), Block::of_number(j));
+    let u = a.sigma();
+    let v = x.sigma();
+    let w = b.sigma();
+    let z = y.sigma();
+    masked_four(
+        &k,
+        Four {
+            a: u,
+            b: v,
+            c: w,
+            d: z,
+        },
+    )
 }
 
 // H of the scheme byte, 3 or 4, for a gate that is garbled: of A and A⊕R under j=2g, of B and B⊕R under k=2g+1.
 pub fn hash_gate(
-    tables: &[u32; 1024],
-    w: &[u8; 176],
+    k: &[u64; 88],
+    t: &[u8; 256],
     scheme: u8,
     r: Block,
     a: Block,
     b: Block,
     g: Wire,
-) -> Hashes
-    requires { ⌜ Lent (now tables) (now w) ⌝ }
+) -> Four
+    requires { ⌜ FixedPlanes (now k) ⌝ }
+    requires { ⌜ IsSBox (now t) ⌝ }
     ensures { λ h. ⌜ HashesAre (hashOf scheme) (r .bytes) (a .bytes) (b .bytes) (g .0) h ⌝ }
 {
-    let j = 2 * (g.0 as u64);
-    let k = j + 1;
+    let i = 2 * (g.0 as u64);
+    let j = i + 1;
     let x = a.xor(r);
     let y = b.xor(r);
     if scheme == 4 {
-        let p = rekeyed_pair(tables, a, x, j);
-        let q = rekeyed_pair(tables, b, y, k);
-        return four(p, q);
+        return rekeyed_four(t, a, x, i, b, y, j);
     }
-    let p = hash_pair(tables, w, a, j, x, j);
-    let q = hash_pair(tables, w, b, k, y, k);
-    four(p, q)
+    fixed_four(k, a, x, i, b, y, j)
 }
 
 // The same for a gate that is evaluated: of A under j=2g, of B under k=2g+1.

@@ -1,5 +1,5 @@
 // One gate, garbled and opened, by each of the four schemes (01, Tokens and Scheme 1 to Scheme 3; 02, job 7).
-// Whatever enciphers is lent the T-tables of AES and the schedule w of π's fixed key.
+// Garbling is lent the schedule of π's fixed key in planes, k, and the S-box, t, for public keys alone; opening, the T-tables of AES and that schedule, w.
 mod cipher; // the dual-key cipher, and a bit times a block
 mod free; // free gates
 mod gax; // schemes 1 and 2
@@ -24,11 +24,11 @@ use model::Truth;
 use model::Wire;
 pub use rows::open_charged;
 ghost use mathlib.Core.Path.{_≡_};
-ghost use Rattle.aes.specs.Lent.{Lent};
+ghost use Rattle.model.specs.Aes.{IsSBox};
 ghost use Rattle.model.specs.Circuit.{charged, kindOf};
 ghost use Rattle.model.specs.Garbling.{Known, schemeOf};
 ghost use Rattle.model.specs.Calls.{garbledCalls};
-ghost use Rattle.scheme.specs.Garbled.{site, GarbledIs};
+ghost use Rattle.scheme.specs.Garbled.{site, FixedPlanes, GarbledIs};
 
 // What garbling knows at a charged gate.
 pub struct Site {
@@ -59,22 +59,23 @@ pub struct OpenedGate {
 
 // A charged gate, garbled by the scheme of a scheme byte. The pair u, v of truth values has a value of its own, own.
 pub fn garble_gate(
-    tables: &[u32; 1024],
-    w: &[u8; 176],
+    k: &[u64; 88],
+    t: &[u8; 256],
     scheme: u8,
     s: Site,
     u: Truth,
     v: Truth,
     own: Truth,
 ) -> GarbledGate
-    requires { ⌜ Lent (now tables) (now w) ⌝ }
+    requires { ⌜ FixedPlanes (now k) ⌝ }
+    requires { ⌜ IsSBox (now t) ⌝ }
     requires { ⌜ Known scheme ⌝ }
     requires { ⌜ kindOf (s .code) ≡ charged (u .0) (v .0) (own .0) ⌝ }
     ensures { λ r. ⌜ GarbledIs (schemeOf scheme) (garbledCalls scheme (site s)) (site s) r ⌝ }
 {
     match scheme {
-        1 => garble_gax(tables, w, s),
-        2 => garble_gaxr(tables, w, s),
-        _ => garble_half(tables, w, scheme, s, u, v, own),
+        1 => garble_gax(k, s),
+        2 => garble_gaxr(k, s),
+        _ => garble_half(k, t, scheme, s, u, v, own),
     }
 }

@@ -1,20 +1,23 @@
 use borrow.Author.Needs.{needs}
 use mathlib.Core.Path.{refl, ap, _∙_}
 use Rattle.model.specs.Aes.{aes}
-use Rattle.model.specs.Tokens.{coloured}
+use Rattle.model.specs.Tokens.{runBlock, coloured}
 use Rattle.garble.proofs.plan.plan_of.Statement.{statement}
 use Rattle.garble.proofs.plan.plan_of.Tie as tie
 
 returns : tie.Need-returns
-unfolding aes
-returns c = record {
-  is-wanted = refl;
-  is-seed = refl;
-  is-stored = c .before .before .before .rows-stored .ensures .0;
-  is-stride = c .before .before .record-length .ensures .0;
-  is-n = refl;
-  is-offset = c .coloured .ensures ∙ ap coloured (c .before .seed-block .ensures ∙ rw (c .before .before .before .before .pre .1));
-}
+returns c =
+    let held = c .before in
+    let start = held .before .before .before in
+    let first = held .hold .ensures .0 _ (start .pre) .is-a in
+    record {
+      is-wanted = refl;
+      is-seed = refl;
+      is-stored = held .before .before .rows-stored .ensures .0;
+      is-stride = held .before .record-length .ensures .0;
+      is-n = refl;
+      is-offset = c .coloured .ensures ∙ ap coloured (first ∙ rw (held .hold .ensures .1));
+    }
 
 pub plan-of-spec : {M : Type 1} → statement M
 plan-of-spec =
