@@ -1,10 +1,11 @@
 -- The value list, and the plain values of the gates: the invariants, turns and ends of their loops. Assumes nothing.
-use Prim.Native.Nat.{ℕ, zero, suc, _+_, _*_, _-_, _≤_, _<_}
+use Prim.Native.Nat.{ℕ, zero, suc, _+_, _*_, _-_, _/_, _≤_, _<_}
 use native.Mathlib.Numerals.{add-one}
 use native.Mathlib.Omega.{arith}
 use mathlib.Core.Path.{_≡_, refl, sym, ap, _∙_}
 use mathlib.Core.List.{List, [], _∷_, _++_}
 use borrow.Author.Tests.{lt-ltb, le-ltb}
+use lib.Bits.{bitOr, or-add-and, and-le-l, and-le-r}
 use lib.ListN.{length, getD, take, set, length-set, take-append-drop}
 use lib.Seq.{length-take-le}
 use Rattle.model.specs.declared.Gate.{Gate}
@@ -41,6 +42,27 @@ module _ (v : List ℕ) (i : ℕ) (inv : Checking v i) where
       let w = inv .within in
       let e : length v ≡ i = omega arith in
       rw (e, inv .no-fault)
+
+-- ---- beyond_bits: all is what the first i values have beyond their lowest bits
+pub record Gathering (v : List ℕ) (all i : ℕ) : Type 0 where
+  pub within : i ≤ length v
+  pub if-none : all ≡ 0 → Checking v i
+
+pub gather-start : (v : List ℕ) → Gathering v 0 0
+gather-start v = record { within = omega arith; if-none = λ _. values-start v }
+
+module _ (v : List ℕ) (all i : ℕ) (inv : Gathering v all i) where
+  pub gather-turn : i < length v → Gathering v (bitOr all (getD v i 0 / 2)) (i + 1)
+  gather-turn h = record { within = omega arith; if-none = λ none. values-turn v i (inv .if-none (before none)) h (bit none) }
+    where
+      before : bitOr all (getD v i 0 / 2) ≡ 0 → all ≡ 0
+      before e = omega (arith, or-add-and all (getD v i 0 / 2), and-le-r all (getD v i 0 / 2))
+
+      bit : bitOr all (getD v i 0 / 2) ≡ 0 → getD v i 0 ≤ 1
+      bit e = omega (arith, or-add-and all (getD v i 0 / 2), and-le-l all (getD v i 0 / 2))
+
+  pub gather-end : length v ≤ i → all ≡ 0 → fine ≡ bitsVerdict v
+  gather-end l none = values-end v i (inv .if-none none) l
 
 -- ---- plain_gates
 

@@ -11,8 +11,11 @@ Inv-loop values i₀ i = Checking values i
 abbrev μ-loop : tie.MeasureT-loop
 μ-loop values i₀ i = length values - i
 
+returns : tie.Need-returns Inv-loop μ-loop
+returns c = c .before .beyond-bits .ensures (search needs)
+
 pub search-values-spec : {M : Type 1} → statement M
 search-values-spec =
     tie.close
-    (tie.spec Inv-loop μ-loop (λ c. search values-start) (λ c. search needs) (λ c. search needs) (λ c. search needs)
+    (tie.spec Inv-loop μ-loop (λ c κs. search needs) returns (λ c. search values-start) (λ c. search needs) (λ c. search needs) (λ c. search needs)
     (λ c. search values-turn) (λ c. search values-end) (λ c. search values-fault))

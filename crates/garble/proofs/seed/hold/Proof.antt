@@ -9,13 +9,13 @@ returns c =
     let d = c .before in
     let b = d .before .before in (
       λ seed is-k.
-      let of-four = c .encrypt-four .ensures _ is-k in
-      record {
-        is-a = held-from _ _ _ _ _ (of-four .is-a) (b .before .run-block .ensures);
-        is-b = held-from _ _ _ _ _ (of-four .is-b) (b .run-block2 .ensures);
-        is-c = held-from _ _ _ _ _ (of-four .is-c) (d .before .run-block3 .ensures);
-        is-d = held-from _ _ _ _ _ (of-four .is-d) (d .run-block4 .ensures);
-      },
+          let of-four = c .encrypt-four .ensures _ is-k in
+          record {
+            is-a = held-from _ _ _ _ _ (of-four .is-a) (b .before .run-block .ensures);
+            is-b = held-from _ _ _ _ _ (of-four .is-b) (b .run-block2 .ensures);
+            is-c = held-from _ _ _ _ _ (of-four .is-c) (d .before .run-block3 .ensures);
+            is-d = held-from _ _ _ _ _ (of-four .is-d) (d .run-block4 .ensures);
+          },
       refl,
     )
 
