@@ -5,7 +5,6 @@ mod rotations; // planes rotated, which moves rows and columns
 mod exchange; // bits exchanged between words
 mod packing; // blocks to planes and back
 mod sliced; // a schedule in planes
-mod pair; // the schedules of two public keys in planes
 mod schedule; // key expansion
 mod cipher; // the rounds
 
@@ -14,7 +13,6 @@ pub use cipher::permute_four;
 pub use packing::Four;
 pub use packing::pack;
 pub use packing::unpack;
-pub use pair::slice_pair;
 pub use planes::Planes;
 pub use schedule::expand_key;
 pub use schedule::sub_word;
