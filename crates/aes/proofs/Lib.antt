@@ -2,9 +2,9 @@
 mod Joined
 pub mod Words
 mod Rounds
-mod Packing
+pub mod Packing
 mod Tables
-mod Columns
-mod NextKeys
+pub mod Columns
+pub mod NextKeys
 mod Spreads
 mod FoldedLaws

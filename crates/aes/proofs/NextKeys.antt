@@ -32,7 +32,7 @@ doubles rc h =
     let e : rc * 2 ^ 1 % 2 ^ 32 ≡ rc * 2 = omega arith in
     rw e
 
-power-byte : (k : ℕ) → powerOfX k < 256
+pub power-byte : (k : ℕ) → powerOfX k < 256
 unfolding powerOfX
 power-byte zero = omega arith
 power-byte (suc k) = xtime-byte (powerOfX k) (power-byte k)
@@ -82,7 +82,7 @@ module _ {key : Block} {w : List ℕ} (is-w : IsExpansion key w) where
       is-w .from-words i (omega arith) h
       ∙ ap₂ (λ (x y : List ℕ). xorWord x y) (ap (word w) p) (temp-other i (word w (i - 1)) n ∙ ap (word w) q)
 
-  next-round-key : (s : ℕ) → s < 10 → (k q : Words) → IsRoundKey w s k → NextKey k (powerOfX s) q → IsRoundKey w (s + 1) q
+  pub next-round-key : (s : ℕ) → s < 10 → (k q : Words) → IsRoundKey w s k → NextKey k (powerOfX s) q → IsRoundKey w (s + 1) q
   next-round-key s h k q now next = record { is-a = a; is-b = b; is-c = c; is-d = d }
     where
       each : {x y z w v : List ℕ} → x ≡ xorWord y z → y ≡ w → z ≡ v → x ≡ xorWord w v
@@ -146,7 +146,7 @@ unfolding stateOf wordOf
 state-length k = refl
 
 -- the key is that of round 0
-first-key : (key : Block) (w : List ℕ) → IsExpansion key w → (k : Words) → stateOf k ≡ key → IsRoundKey w 0 k
+pub first-key : (key : Block) (w : List ℕ) → IsExpansion key w → (k : Words) → stateOf k ≡ key → IsRoundKey w 0 k
 unfolding stateOf wordOf
 first-key key w is-w k e = record {
   is-a = ap (λ (x : List ℕ). word x 0) e ∙ sym (is-w .from-key 0 (omega arith));

@@ -13,14 +13,14 @@ ghost use Rattle.aes.specs.Tables.{wordOf, IsTTables};
 ghost use Rattle.aes.specs.Round.{NextKey};
 
 // RotWord, §5.2: row 1 comes first.
-fn rotated(x: u32) -> u32
+pub fn rotated(x: u32) -> u32
     ensures { λ r. ⌜ wordOf r ≡ rotWord (wordOf x) ⌝ }
 {
     (x >> 8) + (x << 24)
 }
 
 // The round constant of the next round: {02} times this one, §4.2.
-fn next_constant(rc: u32) -> u32
+pub fn next_constant(rc: u32) -> u32
     requires { ⌜ rc < 256 ⌝ }
     ensures { λ r. ⌜ r ≡ xtime rc ⌝ }
 {

@@ -1,6 +1,6 @@
 -- Blocks in words of half a block, and these in planes. Assumes nothing.
 use mathlib.Core.Path.{_≡_, refl, sym, ap, ap₂, _∙_}
-use mathlib.Core.Bool.{cond}
+use mathlib.Core.Bool.{Bool, true, false, cond}
 use mathlib.Core.List.{List, [], _∷_, _++_}
 use Prim.Native.Nat.{ℕ, zero, suc, _+_, _*_, _-_, _/_, _%_, _^_, _<_}
 use native.Mathlib.Omega.{arith}
@@ -10,13 +10,13 @@ use lib.Bits.{bitXor, bitAnd, xor-shr, xor-mod, xor-zero-r, and-shr, and-mod, an
 use lib.ListN.{getD, length}
 use Rattle.model.specs.Bytes.{tabulate}
 use Rattle.model.specs.Aes.{Block, bit}
-use Rattle.model.proofs.Lists.{elements, from-cong}
+use Rattle.model.proofs.Lists.{entry, elements, from-cong}
 use Rattle.model.proofs.XorRules.{xor-self-left}
 use Rattle.planes.specs.declared.planes.Planes.{Planes}
 use Rattle.planes.specs.Lanes.{planesOf, lane, fromBits, byteAt, laneOf, blockAt}
 use Rattle.planes.specs.Exchange.{From, inWord, inByte, outLane, Spread, Gathered}
-use Rattle.planes.specs.Packing.{byteOf, bytesOf8, oddFrom}
-use Rattle.planes.proofs.Lanes.{eight, at-both, bitsOf, from-bits, lane-is}
+use Rattle.planes.specs.Packing.{byteOf, bytesOf8, OfBytes, rowsFrom, oddFrom}
+use Rattle.planes.proofs.Lanes.{eight, at-each, at-both, bitsOf, from-bits, lane-is}
 use Rattle.planes.proofs.Shifts.{bit-right}
 use Rattle.planes.proofs.Swaps.{xor-twice}
 
@@ -124,42 +124,44 @@ byte-xor x y j = ap (λ (n : ℕ). n % 256) (xor-shr x y (8 * j)) ∙ xor-mod (x
 byte-and : (x y j : ℕ) → byteOf (bitAnd x y) j ≡ bitAnd (byteOf x j) (byteOf y j)
 byte-and x y j = ap (λ (n : ℕ). n % 256) (and-shr x y (8 * j)) ∙ and-mod (x / 2 ^ (8 * j)) (y / 2 ^ (8 * j)) 8
 
-abbrev odd : ℕ
-odd = 0xFF00FF00FF00FF00
-
--- a has the bytes of x and y that differ exclusive-ored into its odd bytes
-module _ (a x y j : ℕ) where
-  stays : byteOf odd j ≡ 0 → byteOf (bitXor a (bitAnd (bitXor x y) odd)) j ≡ byteOf a j
+-- a has the bytes of x and y that differ exclusive-ored into those of its bytes for which the mask has 255
+module _ (mask a x y j : ℕ) where
+  stays : byteOf mask j ≡ 0 → byteOf (bitXor a (bitAnd (bitXor x y) mask)) j ≡ byteOf a j
   stays e =
-      byte-xor a (bitAnd (bitXor x y) odd) j ∙ ap (bitXor (byteOf a j)) (byte-and (bitXor x y) odd j ∙ ap (bitAnd (byteOf (bitXor x y) j)) e ∙ and-zero-r (byteOf (bitXor x y) j))
+      byte-xor a (bitAnd (bitXor x y) mask) j ∙ ap (bitXor (byteOf a j)) (byte-and (bitXor x y) mask j ∙ ap (bitAnd (byteOf (bitXor x y) j)) e ∙ and-zero-r (byteOf (bitXor x y) j))
       ∙ xor-zero-r (byteOf a j)
 
-  goes : byteOf odd j ≡ 255 → byteOf (bitXor a (bitAnd (bitXor x y) odd)) j ≡ bitXor (byteOf a j) (bitXor (byteOf x j) (byteOf y j))
+  goes : byteOf mask j ≡ 255 → byteOf (bitXor a (bitAnd (bitXor x y) mask)) j ≡ bitXor (byteOf a j) (bitXor (byteOf x j) (byteOf y j))
   goes e =
       let z : ℕ = byteOf (bitXor x y) j in
       let same : z % 256 ≡ z = omega (arith, byte-lt (bitXor x y) j) in
-      byte-xor a (bitAnd (bitXor x y) odd) j ∙ ap (bitXor (byteOf a j)) (byte-and (bitXor x y) odd j ∙ ap (bitAnd z) e ∙ and-mask z 8 ∙ same ∙ byte-xor x y j)
+      byte-xor a (bitAnd (bitXor x y) mask) j ∙ ap (bitXor (byteOf a j)) (byte-and (bitXor x y) mask j ∙ ap (bitAnd z) e ∙ and-mask z 8 ∙ same ∙ byte-xor x y j)
 
 -- which makes them those of the other word, whichever a is
-module _ (a o x y : ℕ) (other : (j : ℕ) → bitXor (byteOf a j) (bitXor (byteOf x j) (byteOf y j)) ≡ byteOf o j) where
-  swapped : bytesOf8 (bitXor a (bitAnd (bitXor x y) odd)) ≡ oddFrom a o
-  unfolding bytesOf8 oddFrom
+module _ (mask : ℕ) (rows : OfBytes mask) (a o x y : ℕ) (other : (j : ℕ) → bitXor (byteOf a j) (bitXor (byteOf x j) (byteOf y j)) ≡ byteOf o j) where
+  byte-swapped : (j : ℕ) → j < 8 → (b : Bool) → byteOf mask j ≡ cond b 0 255 → byteOf (bitXor a (bitAnd (bitXor x y) mask)) j ≡ getD (cond b (bytesOf8 a) (bytesOf8 o)) j 0
+  unfolding bytesOf8
+  byte-swapped j h true e = stays mask a x y j e ∙ sym (entry 0 8 (byteOf a) j h)
+  byte-swapped j h false e = goes mask a x y j e ∙ other j ∙ sym (entry 0 8 (byteOf o) j h)
+
+  swapped : bytesOf8 (bitXor a (bitAnd (bitXor x y) mask)) ≡ rowsFrom mask (bytesOf8 a) (bytesOf8 o)
+  unfolding bytesOf8 rowsFrom
   swapped =
-      let go : (j : ℕ) → byteOf odd j ≡ 255 → byteOf (bitXor a (bitAnd (bitXor x y) odd)) j ≡ byteOf o j = λ j e. goes a x y j e ∙ other j in
-      eight (stays a x y 0 refl) (go 1 refl) (stays a x y 2 refl) (go 3 refl) (stays a x y 4 refl) (go 5 refl) (stays a x y 6 refl) (go 7 refl)
+      each8 (byteOf (bitXor a (bitAnd (bitXor x y) mask))) (λ j. getD (cond (eqb (byteOf mask j) 0) (bytesOf8 a) (bytesOf8 o)) j 0)
+      (λ j h. byte-swapped j h (eqb (byteOf mask j) 0) (at-each 8 (byteOf mask) (λ j. cond (eqb (byteOf mask j) 0) 0 255) rows j h))
 
-pub first-swapped : (x y : ℕ) → bytesOf8 (bitXor x (bitAnd (bitXor x y) odd)) ≡ oddFrom x y
-first-swapped x y = swapped x y x y (λ j. xor-self-left (byteOf x j) (byteOf y j))
+pub first-swapped : (mask x y : ℕ) → OfBytes mask → bytesOf8 (bitXor x (bitAnd (bitXor x y) mask)) ≡ rowsFrom mask (bytesOf8 x) (bytesOf8 y)
+first-swapped mask x y rows = swapped mask rows x y x y (λ j. xor-self-left (byteOf x j) (byteOf y j))
 
-pub second-swapped : (x y : ℕ) → bytesOf8 (bitXor y (bitAnd (bitXor x y) odd)) ≡ oddFrom y x
-second-swapped x y = swapped y x x y (λ j. xor-twice (byteOf x j) (byteOf y j))
+pub second-swapped : (mask x y : ℕ) → OfBytes mask → bytesOf8 (bitXor y (bitAnd (bitXor x y) mask)) ≡ rowsFrom mask (bytesOf8 y) (bytesOf8 x)
+second-swapped mask x y rows = swapped mask rows y x x y (λ j. xor-twice (byteOf x j) (byteOf y j))
 
 abbrev list16 : List ℕ → List ℕ → List ℕ
 list16 s t =
     getD s 0 0 ∷ getD s 1 0 ∷ getD s 2 0 ∷ getD s 3 0 ∷ getD s 4 0 ∷ getD s 5 0 ∷ getD s 6 0 ∷ getD s 7 0 ∷ getD t 0 0 ∷ getD t 1 0 ∷ getD t 2 0 ∷ getD t 3 0 ∷ getD t 4 0 ∷ getD t 5 0 ∷ getD t 6 0 ∷ getD t 7 0 ∷ []
 
 pub two-halves : (s t : List ℕ) (x y u v : ℕ) → s ≡ bytesOf8 u → t ≡ bytesOf8 v → bytesOf8 u ≡ oddFrom x y → bytesOf8 v ≡ oddFrom y x → list16 s t ≡ oddFrom x y ++ oddFrom y x
-unfolding oddFrom
+unfolding oddFrom rowsFrom
 two-halves s t x y u v a b c d = ap₂ list16 (a ∙ c) (b ∙ d)
 
 -- byte i of the block is in the word of its half, or in an odd row in the other
@@ -167,7 +169,7 @@ abbrev halfAt : ℕ → ℕ
 halfAt i = (i / 8 + i % 2) % 2
 
 by-half : (x y : ℕ) → oddFrom x y ++ oddFrom y x ≡ tabulate 16 (λ i. byteOf (cond (eqb (halfAt i) 0) x y) (i % 8))
-unfolding oddFrom
+unfolding oddFrom rowsFrom bytesOf8
 by-half x y = refl
 
 pub unpacks : (p q : Planes) → Gathered p q → (b : ℕ) → b < 4 →

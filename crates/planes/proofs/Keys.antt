@@ -1,4 +1,4 @@
--- Schedules in planes: keys turned, stored and packed. Assumes nothing.
+-- Schedules in planes: keys packed and stored, round by round. Assumes nothing.
 use mathlib.Core.Path.{_≡_, refl, sym, ap, _∙_}
 use mathlib.Core.List.{List, [], _∷_, _++_, append-assoc}
 use Prim.Native.Nat.{ℕ, zero, suc, _+_, _*_, _-_, _%_, _<_, _≤_}
@@ -6,50 +6,23 @@ use native.Mathlib.Omega.{arith}
 use lib.ListN.{getD, length, take, drop, set, List·getD-append}
 use lib.Seq.{sets-eq, getD-append-add, getD-take, length-take-le, drop-drop}
 use Rattle.model.specs.Bytes.{over, put}
-use Rattle.model.specs.Aes.{Block, _⊕_, shiftRows, roundKey, addRoundKey}
+use Rattle.model.specs.Aes.{xtime, powerOfX, roundKey, IsExpansion, keyExpansion}
 use Rattle.model.proofs.Lists.{entry}
 use Rattle.model.proofs.Buffers.{put-length}
+use Rattle.model.proofs.Expansion.{expansion-is}
+use Rattle.aes.specs.declared.packed.Words.{Words}
+use Rattle.aes.specs.Tables.{wordOf, stateOf}
+use Rattle.aes.specs.Round.{IsRoundKey, NextKey}
+use Rattle.aes.proofs.Columns.{key-state}
+use Rattle.aes.proofs.NextKeys.{power-byte, next-round-key, first-key}
 use Rattle.planes.specs.declared.planes.Planes.{Planes}
-use Rattle.planes.specs.declared.packing.Four.{Four}
+use Rattle.planes.specs.declared.packing.Halves.{Halves}
 use Rattle.planes.specs.Lanes.{planesOf, blockAt}
-use Rattle.planes.specs.Packing.{Packed}
-use Rattle.planes.specs.Sliced.{keyPlanes, IsSliced, byPair, turnBy}
+use Rattle.planes.specs.Exchange.{Spread, twice}
+use Rattle.planes.specs.Packing.{ofHalves}
+use Rattle.planes.specs.Sliced.{keyPlanes, IsSliced, byPair, PairIn, KeyPut, turnBy}
+use Rattle.planes.proofs.Halves.{packs}
 use Rattle.planes.proofs.Blocks.{turned-block}
-
--- ---- a key turned
-
--- after i turns of the loop, ShiftRows was done i times
-pub record Turned (w : List ℕ) (r n i : ℕ) (s : Block) : Type 0 where
-  pub within : i ≤ n
-  pub so-far : s ≡ turnBy i (roundKey w r)
-
-abbrev zeros : Block
-zeros = 0 ∷ 0 ∷ 0 ∷ 0 ∷ 0 ∷ 0 ∷ 0 ∷ 0 ∷ 0 ∷ 0 ∷ 0 ∷ 0 ∷ 0 ∷ 0 ∷ 0 ∷ 0 ∷ []
-
-pub turned-start : {w : List ℕ} {r n : ℕ} {s : Block} → s ≡ addRoundKey w r zeros → Turned w r n 0 s
-unfolding turnBy addRoundKey _⊕_ roundKey
-turned-start e = record { within = omega arith; so-far = e }
-
-pub turned-turn : {w : List ℕ} {r n i : ℕ} {s s′ : Block} → Turned w r n i s → i < n → s′ ≡ shiftRows s → Turned w r n (i + 1) s′
-unfolding turnBy
-turned-turn {i = i} inv h e =
-    let p : i + 1 ≡ suc i = omega arith in
-    record { within = omega arith; so-far = rw p (e ∙ ap shiftRows (inv .so-far)) }
-
--- ShiftRows four times is none
-around : (w : List ℕ) (r k : ℕ) → k < 4 → turnBy k (turnBy ((4 - k) % 4) (roundKey w r)) ≡ roundKey w r
-unfolding turnBy shiftRows roundKey
-around w r zero h = refl
-around w r (suc zero) h = refl
-around w r (suc (suc zero)) h = refl
-around w r (suc (suc (suc zero))) h = refl
-around w r (suc (suc (suc (suc k)))) h = absurd (omega arith)
-
-pub turned-end : {w : List ℕ} {r i : ℕ} {s : Block} → Turned w r ((4 - r % 4) % 4) i s → (4 - r % 4) % 4 ≤ i → turnBy (r % 4) s ≡ roundKey w r
-turned-end {w} {r} {i} {s} inv h =
-    let n : ℕ = (4 - r % 4) % 4 in
-    let e : i ≡ n = omega (arith, inv .within) in
-    ap (turnBy (r % 4)) (inv .so-far ∙ ap (λ (m : ℕ). turnBy m (roundKey w r)) e) ∙ around w r (r % 4) (omega arith)
 
 -- ---- planes stored
 
@@ -98,6 +71,44 @@ key-word : (k : List ℕ) (r i : ℕ) → i < 8 → getD k (8 * r + i) 0 ≡ get
 unfolding keyPlanes planesOf
 key-word k r i h = sym (entry 0 8 (λ b. getD k (8 * r + b) 0) i h)
 
+-- ---- a round's key in planes, and stored
+
+by-pair : (u v s t : List ℕ) (r : ℕ) → s ≡ roundKey u r → t ≡ roundKey v r → (b : ℕ) → byPair s t b ≡ roundKey (byPair u v b) r
+by-pair u v s t r e f zero = e
+by-pair u v s t r e f (suc zero) = e
+by-pair u v s t r e f (suc (suc b)) = f
+
+-- the keys x and y, turned back to g and h, and these spread
+pub pair-in : (r : ℕ) (x y g h : Halves) (p : Planes) → turnBy (r % 4) (ofHalves g) ≡ ofHalves x → turnBy (r % 4) (ofHalves h) ≡ ofHalves y →
+    Spread (twice (record { a = g .first; b = g .second; c = h .first; d = h .second })) p → PairIn r x y p
+unfolding PairIn ofHalves twice planesOf
+pair-in r x y g h p is-g is-h is-p = each
+  where
+    q : Planes
+    q = twice (record { a = g .first; b = g .second; c = h .first; d = h .second })
+
+    each : (b : ℕ) → b < 4 → blockAt (r % 4) b p ≡ byPair (ofHalves x) (ofHalves y) b
+    each zero l = turned-block p 0 (ofHalves g) (packs q p is-p 0 l (ofHalves g) refl) (r % 4) (omega arith) ∙ is-g
+    each (suc zero) l = turned-block p 1 (ofHalves g) (packs q p is-p 1 l (ofHalves g) refl) (r % 4) (omega arith) ∙ is-g
+    each (suc (suc zero)) l = turned-block p 2 (ofHalves h) (packs q p is-p 2 l (ofHalves h) refl) (r % 4) (omega arith) ∙ is-h
+    each (suc (suc (suc zero))) l = turned-block p 3 (ofHalves h) (packs q p is-p 3 l (ofHalves h) refl) (r % 4) (omega arith) ∙ is-h
+    each (suc (suc (suc (suc b)))) l = absurd (omega arith)
+
+pub key-put : (r : ℕ) (x y : Halves) (p : Planes) (k k′ : List ℕ) → r < 11 → length k ≡ 88 → PairIn r x y p → k′ ≡ put k (8 * r) (planesOf p) → KeyPut r x y k k′
+unfolding PairIn
+key-put r x y p k k′ hr l is-p e = record {
+  size = ap length e ∙ put-length k (8 * r) (planesOf p) room ∙ l;
+  here = λ b hb. ap (blockAt (r % 4) b) written ∙ is-p b hb;
+  before =
+      λ n g. keys-are k′ n (keyPlanes k n) (λ i h. ap (λ (l : List ℕ). getD l (8 * n + i) 0) e ∙ put-before k (planesOf p) (8 * r) room (8 * n + i) (omega arith) ∙ key-word k n i h);
+}
+  where
+    room : 8 * r + length (planesOf p) ≤ length k
+    room = omega (arith, eight-words p)
+
+    written : keyPlanes k′ r ≡ p
+    written = keys-are k′ r p (λ i h. ap (λ (l : List ℕ). getD l (8 * r + i) 0) e ∙ put-here k (planesOf p) (8 * r) room i (omega (arith, eight-words p)))
+
 -- ---- the loop
 
 -- the keys before round r stand in k, the schedule u's in blocks 0 and 1, and v's in the others
@@ -117,35 +128,63 @@ side : (n r d : ℕ) → n < r + 1 → r - n ≡ d → Side n r
 side n r zero h e = same (omega arith)
 side n r (suc d) h e = less (omega arith)
 
--- s and t are the keys of round r, turned back, x the four blocks that they are packed as, and p these in planes
-module _ (u v : List ℕ) (r : ℕ) (s t : Block) (x : Four) (p : Planes) (is-s : turnBy (r % 4) s ≡ roundKey u r) (is-t : turnBy (r % 4) t ≡ roundKey v r)
-    (is-p : Packed x p) (is-a : x .a .bytes ≡ s) (is-b : x .b .bytes ≡ s) (is-c : x .c .bytes ≡ t) (is-d : x .d .bytes ≡ t) where
-  key-block : (b : ℕ) → b < 4 → blockAt (r % 4) b p ≡ roundKey (byPair u v b) r
-  key-block zero h = turned-block p 0 s (is-p .is-a ∙ is-a) (r % 4) (omega arith) ∙ is-s
-  key-block (suc zero) h = turned-block p 1 s (is-p .is-b ∙ is-b) (r % 4) (omega arith) ∙ is-s
-  key-block (suc (suc zero)) h = turned-block p 2 t (is-p .is-c ∙ is-c) (r % 4) (omega arith) ∙ is-t
-  key-block (suc (suc (suc zero))) h = turned-block p 3 t (is-p .is-d ∙ is-d) (r % 4) (omega arith) ∙ is-t
-  key-block (suc (suc (suc (suc b)))) h = absurd (omega arith)
-
-  pub sliced-turn : (k k′ : List ℕ) → SlicedTo u v r k → r < 11 → k′ ≡ put k (8 * r) (planesOf p) → SlicedTo u v (r + 1) k′
-  sliced-turn k k′ inv hr e = record { within = omega arith; size = ap length e ∙ put-length k (8 * r) (planesOf p) room ∙ inv .size; so-far = λ n h b hb. each n b hb (side n r (r - n) h refl) }
-    where
-      room : 8 * r + length (planesOf p) ≤ length k
-      room = omega (arith, eight-words p, inv .size)
-
-      here : keyPlanes k′ r ≡ p
-      here = keys-are k′ r p (λ i h. ap (λ (l : List ℕ). getD l (8 * r + i) 0) e ∙ put-here k (planesOf p) (8 * r) room i (omega (arith, eight-words p)))
-
-      earlier : (n : ℕ) → n < r → keyPlanes k′ n ≡ keyPlanes k n
-      earlier n g = keys-are k′ n (keyPlanes k n) (λ i h. ap (λ (l : List ℕ). getD l (8 * n + i) 0) e ∙ put-before k (planesOf p) (8 * r) room (8 * n + i) (omega arith) ∙ key-word k n i h)
-
-      each : (n b : ℕ) → b < 4 → Side n r → blockAt (n % 4) b (keyPlanes k′ n) ≡ roundKey (byPair u v b) n
-      each n b hb (less g) = ap (blockAt (n % 4) b) (earlier n g) ∙ inv .so-far n g b hb
-      each n b hb (same g) = rw g (ap (blockAt (r % 4) b) here ∙ key-block b hb)
+-- x and y are the keys of round r
+pub sliced-turn : {u v k k′ : List ℕ} {r : ℕ} {x y : Halves} → SlicedTo u v r k → r < 11 → ofHalves x ≡ roundKey u r → ofHalves y ≡ roundKey v r → KeyPut r x y k k′ →
+    SlicedTo u v (r + 1) k′
+unfolding PairIn
+sliced-turn {u} {v} {k} {k′} {r} {x} {y} inv hr is-x is-y new = record { within = omega arith; size = new .size; so-far = λ n h b hb. each n b hb (side n r (r - n) h refl) }
+  where
+    each : (n b : ℕ) → b < 4 → Side n r → blockAt (n % 4) b (keyPlanes k′ n) ≡ roundKey (byPair u v b) n
+    each n b hb (less g) = ap (blockAt (n % 4) b) (new .before n g) ∙ inv .so-far n g b hb
+    each n b hb (same g) = rw g (new .here b hb ∙ by-pair u v (ofHalves x) (ofHalves y) r is-x is-y b)
 
 pub sliced-end : {u v k : List ℕ} {r : ℕ} → SlicedTo u v r k → 11 ≤ r → IsSliced (byPair u v) k
 unfolding IsSliced
 sliced-end inv h n hn b hb = inv .so-far n (omega arith) b hb
+
+-- ---- the loop of two keys: x and y are those of round r, and rc the round constant of the next
+
+abbrev scheduleOf : Words → List ℕ
+scheduleOf x = keyExpansion (stateOf x)
+
+pub record Slicing (x₀ y₀ : Words) (k : List ℕ) (x y : Words) (rc r : ℕ) : Type 0 where
+  pub so-far : SlicedTo (scheduleOf x₀) (scheduleOf y₀) r k
+  pub is-x : r < 11 → IsRoundKey (scheduleOf x₀) r x
+  pub is-y : r < 11 → IsRoundKey (scheduleOf y₀) r y
+  pub is-constant : rc ≡ powerOfX r
+
+expanded : (x : Words) → IsExpansion (stateOf x) (scheduleOf x)
+unfolding stateOf wordOf
+expanded x = expansion-is (stateOf x) refl
+
+pub slicing-start : (x y : Words) (k : List ℕ) → length k ≡ 88 → Slicing x y k x y 1 0
+unfolding powerOfX
+slicing-start x y k l = record {
+  so-far = sliced-start l;
+  is-x = λ h. first-key (stateOf x) (scheduleOf x) (expanded x) x refl;
+  is-y = λ h. first-key (stateOf y) (scheduleOf y) (expanded y) y refl;
+  is-constant = refl;
+}
+
+-- the constant is a byte
+pub slicing-byte : {x₀ y₀ x y : Words} {k : List ℕ} {rc r : ℕ} → Slicing x₀ y₀ k x y rc r → rc < 256
+slicing-byte {r = r} inv = rw (inv .is-constant) (power-byte r)
+
+pub slicing-turn : {x₀ y₀ x y x′ y′ : Words} {k k′ : List ℕ} {rc rc′ r : ℕ} (g h : Halves) → Slicing x₀ y₀ k x y rc r → r < 11 → ofHalves g ≡ stateOf x → ofHalves h ≡ stateOf y →
+    KeyPut r g h k k′ → NextKey x rc x′ → NextKey y rc y′ → rc′ ≡ xtime rc → Slicing x₀ y₀ k′ x′ y′ rc′ (r + 1)
+unfolding powerOfX
+slicing-turn {x₀} {y₀} {x} {y} {x′} {y′} {r = r} g h inv hr is-g is-h new next-x next-y is-rc =
+    let e : r + 1 ≡ suc r = omega arith in
+    record {
+      so-far = sliced-turn (inv .so-far) hr (is-g ∙ key-state (scheduleOf x₀) r x (inv .is-x hr)) (is-h ∙ key-state (scheduleOf y₀) r y (inv .is-y hr)) new;
+      is-x = λ l. next-round-key (expanded x₀) r (omega arith) x x′ (inv .is-x hr) (rw (inv .is-constant) at next-x);
+      is-y = λ l. next-round-key (expanded y₀) r (omega arith) y y′ (inv .is-y hr) (rw (inv .is-constant) at next-y);
+      is-constant = rw (e, ← inv .is-constant) is-rc;
+    }
+
+pub slicing-end : {x₀ y₀ x y : Words} {k i j : List ℕ} {rc r : ℕ} → Slicing x₀ y₀ k x y rc r → 11 ≤ r → stateOf x₀ ≡ i → stateOf y₀ ≡ j →
+    IsSliced (byPair (keyExpansion i) (keyExpansion j)) k
+slicing-end {k = k} inv h is-x is-y = rw (← is-x, ← is-y) (sliced-end (inv .so-far) h)
 
 -- ---- one schedule for all
 

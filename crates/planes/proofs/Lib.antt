@@ -8,5 +8,7 @@ mod Swaps
 mod Halves
 mod Blocks
 mod Rounds
+mod Expansions
+mod TurnedKeys
 mod Keys
 mod SubWords

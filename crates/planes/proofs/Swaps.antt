@@ -12,8 +12,9 @@ use Rattle.model.proofs.Lists.{entry}
 use Rattle.model.proofs.XorRules.{xor-self-left}
 use Rattle.planes.specs.declared.planes.Planes.{Planes}
 use Rattle.planes.specs.declared.exchange.Two.{Two}
+use Rattle.planes.specs.declared.exchange.Pairs.{Pairs}
 use Rattle.planes.specs.Lanes.{planesOf}
-use Rattle.planes.specs.Exchange.{digit, Alternates, Swapped, From, fromWord, fromBit, Exchanged, Interleaved, Parted, inWord, inByte, outLane, Spread, Gathered}
+use Rattle.planes.specs.Exchange.{digit, Alternates, Swapped, SwappedPairs, From, fromWord, fromBit, Exchanged, Interleaved, Parted, inWord, inByte, outLane, Spread, twice, Gathered}
 use Rattle.planes.proofs.Lanes.{at-each, at-both, Agree, bit-xor, bit-and, bit-lt, and-one}
 use Rattle.planes.proofs.Shifts.{Cut, before, after, cut, bit-right, bit-left-after, bit-left-before, bit-within}
 
@@ -187,6 +188,42 @@ spreads q a b c d i e j r s8 s16 s32 s4 di s2 ej s1 =
     same-places _ _ (λ w l. inWord l) (λ w l. 8 * inByte l + w) refl refl q r
     (then _ _ _ _ refl q a r s8 (then _ _ _ _ refl a b r s16 (then _ _ _ _ refl b c r s32 (then _ _ _ _ refl c d r s4 (then _ _ _ _ refl d i r di (then _ _ _ _ refl i e r s2
     (then _ _ _ _ refl e j r ej s1)))))))
+
+-- the words a, b, c, d of two pairs, and the same again; the words a, a, b, b, c, c, d, d
+again : Pairs → Planes
+again x = record { p0 = x .a; p1 = x .b; p2 = x .c; p3 = x .d; p4 = x .a; p5 = x .b; p6 = x .c; p7 = x .d }
+
+each : Pairs → Planes
+each x = record { p0 = x .a; p1 = x .a; p2 = x .b; p3 = x .b; p4 = x .c; p5 = x .c; p6 = x .d; p7 = x .d }
+
+-- the pairs (a, c) and (b, d)
+abbrev crossed : Pairs → Pairs
+crossed x = record { a = x .a; b = x .c; c = x .b; d = x .d }
+
+-- both pairs exchanged, in either order of the words
+module _ (s : ℕ) (x r : Pairs) (e : SwappedPairs s x r) where
+  pairs-twice : Exchanged s (twice x) (twice r)
+  unfolding twice planesOf
+  pairs-twice = exchanges s (twice x) (twice r) _ _ _ _ (e .first) (e .first) (e .second) (e .second) refl
+
+  pairs-again : Exchanged s (again x) (again r)
+  unfolding again planesOf
+  pairs-again = exchanges s (again x) (again r) _ _ _ _ (e .first) (e .second) (e .first) (e .second) refl
+
+twice-again : (x : Pairs) → Interleaved (twice x) (again (crossed x))
+unfolding twice again planesOf
+twice-again x = reorders (λ w. w % 2 * 4 + w / 2) (twice x) (again (crossed x)) refl
+
+again-each : (x : Pairs) → Interleaved (again x) (each x)
+unfolding again each planesOf
+again-each x = reorders (λ w. w % 2 * 4 + w / 2) (again x) (each x) refl
+
+pub spreads-pairs : (x a b c d e : Pairs) (r : Planes) → SwappedPairs 8 x a → SwappedPairs 16 a b → SwappedPairs 32 b c → SwappedPairs 4 c d → SwappedPairs 2 (crossed d) e →
+    Exchanged 1 (record { p0 = e .a; p1 = e .a; p2 = e .b; p3 = e .b; p4 = e .c; p5 = e .c; p6 = e .d; p7 = e .d }) r → Spread (twice x) r
+unfolding each
+spreads-pairs x a b c d e r s8 s16 s32 s4 s2 s1 =
+    spreads (twice x) (twice a) (twice b) (twice c) (twice d) (again (crossed d)) (again e) (each e) r (pairs-twice 8 x a s8) (pairs-twice 16 a b s16) (pairs-twice 32 b c s32)
+    (pairs-twice 4 c d s4) (twice-again d) (pairs-again 2 (crossed d) e s2) (again-each e) s1
 
 pub gathers : (q i a j b c d e r : Planes) → Exchanged 1 q i → Parted i a → Exchanged 2 a j → Parted j b → Exchanged 4 b c → Exchanged 32 c d → Exchanged 16 d e → Exchanged 8 e r →
     Gathered q r

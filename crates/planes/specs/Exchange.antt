@@ -7,6 +7,7 @@ use Rattle.model.specs.Bytes.{tabulate}
 use Rattle.model.specs.Aes.{bit}
 use Rattle.planes.specs.declared.planes.Planes.{Planes}
 use Rattle.planes.specs.declared.exchange.Two.{Two}
+use Rattle.planes.specs.declared.exchange.Pairs.{Pairs}
 use Rattle.planes.specs.Lanes.{planesOf}
 
 -- the digit s of a number, s a power of 2
@@ -23,6 +24,11 @@ pub record Alternates (s mask : ℕ) : Type 0 where
 pub record Swapped (s a b : ℕ) (r : Two) : Type 0 where
   pub low : (l : ℕ) → l < 64 → bit (r .u) l ≡ bit (getD (a ∷ b ∷ []) (digit s l) 0) (l - digit s l * s)
   pub high : (l : ℕ) → l < 64 → bit (r .v) l ≡ bit (getD (a ∷ b ∷ []) (digit s l) 0) (l - digit s l * s + s)
+
+-- the same of two pairs of words
+pub record SwappedPairs (s : ℕ) (x r : Pairs) : Type 0 where
+  pub first : Swapped s (x .a) (x .b) (record { u = r .a; v = r .b })
+  pub second : Swapped s (x .c) (x .d) (record { u = r .c; v = r .d })
 
 -- bit l of word w of r is bit g w l of word f w l of q
 unfoldable pub From : (ℕ → ℕ → ℕ) → (ℕ → ℕ → ℕ) → Planes → Planes → Type 0
@@ -59,6 +65,10 @@ outLane w j = j % 4 * 16 + w % 2 * 8 + j / 4 * 4 + w / 2
 -- words to planes, and planes to words
 abbrev pub Spread : Planes → Planes → Type 0
 Spread = From (λ w l. inWord l) (λ w l. 8 * inByte l + w)
+
+-- the words of four blocks, of which block 1 is block 0 again, and block 3 block 2
+unfoldable pub twice : Pairs → Planes
+twice x = record { p0 = x .a; p1 = x .b; p2 = x .a; p3 = x .b; p4 = x .c; p5 = x .d; p6 = x .c; p7 = x .d }
 
 abbrev pub Gathered : Planes → Planes → Type 0
 Gathered = From (λ w l. l % 8) (λ w l. outLane w (l / 8))

@@ -1,12 +1,15 @@
 -- Blocks packed into planes and back.
 use Prim.Native.Nat.{ℕ, _*_, _/_, _%_, _^_}
 use mathlib.Core.Path.{_≡_}
-use mathlib.Core.List.{List}
+use mathlib.Core.List.{List, _++_}
 use mathlib.Core.Bool.{cond}
 use lib.Dec.{eqb}
+use lib.ListN.{getD}
 use Rattle.model.specs.Bytes.{tabulate}
+use Rattle.model.specs.Aes.{Block}
 use Rattle.planes.specs.declared.planes.Planes.{Planes}
 use Rattle.planes.specs.declared.packing.Four.{Four}
+use Rattle.planes.specs.declared.packing.Halves.{Halves}
 use Rattle.planes.specs.Lanes.{blockAt}
 
 -- byte i of a word, 0 the lowest
@@ -16,9 +19,21 @@ byteOf x i = x / 2 ^ (8 * i) % 256
 unfoldable pub bytesOf8 : ℕ → List ℕ
 bytesOf8 x = tabulate 8 (byteOf x)
 
--- the even bytes of x and the odd bytes of y
+-- the block of two halves
+unfoldable pub ofHalves : Halves → Block
+ofHalves h = bytesOf8 (h .first) ++ bytesOf8 (h .second)
+
+-- each byte of the mask is 0 or 255
+abbrev pub OfBytes : ℕ → Type 0
+OfBytes mask = tabulate 8 (byteOf mask) ≡ tabulate 8 (λ j. cond (eqb (byteOf mask j) 0) 0 255)
+
+-- the bytes of s where the mask has 0, and those of t where it has 255
+unfoldable pub rowsFrom : ℕ → List ℕ → List ℕ → List ℕ
+rowsFrom mask s t = tabulate 8 (λ j. getD (cond (eqb (byteOf mask j) 0) s t) j 0)
+
+-- the even bytes of x and the odd bytes of y: each half has rows 0 to 3 of two columns
 unfoldable pub oddFrom : ℕ → ℕ → List ℕ
-oddFrom x y = tabulate 8 (λ j. byteOf (cond (eqb (j % 2) 0) x y) j)
+oddFrom x y = rowsFrom 0xFF00FF00FF00FF00 (bytesOf8 x) (bytesOf8 y)
 
 -- q has these four blocks, before the first round
 pub record Packed (x : Four) (q : Planes) : Type 0 where

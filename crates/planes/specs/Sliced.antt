@@ -2,10 +2,12 @@
 use Prim.Native.Nat.{ℕ, zero, suc, _+_, _*_, _%_, _<_}
 use mathlib.Core.Path.{_≡_}
 use mathlib.Core.List.{List}
-use lib.ListN.{getD}
+use lib.ListN.{length, getD}
 use Rattle.model.specs.Aes.{Block, shiftRows, roundKey}
 use Rattle.planes.specs.declared.planes.Planes.{Planes}
+use Rattle.planes.specs.declared.packing.Halves.{Halves}
 use Rattle.planes.specs.Lanes.{blockAt}
+use Rattle.planes.specs.Packing.{ofHalves}
 
 -- the planes of the keys of round r: words 8r to 8r + 7
 unfoldable pub keyPlanes : List ℕ → ℕ → Planes
@@ -23,6 +25,16 @@ abbrev pub byPair : List ℕ → List ℕ → ℕ → List ℕ
 byPair u v zero = u
 byPair u v (suc zero) = u
 byPair u v (suc (suc b)) = v
+
+-- p has the key x for blocks 0 and 1, and y for the others, their rows turned as the state's before round r's AddRoundKey
+unfoldable pub PairIn : ℕ → Halves → Halves → Planes → Type 0
+PairIn r x y p = (b : ℕ) → b < 4 → blockAt (r % 4) b p ≡ byPair (ofHalves x) (ofHalves y) b
+
+-- k′ is k with these keys put in as those of round r
+pub record KeyPut (r : ℕ) (x y : Halves) (k k′ : List ℕ) : Type 0 where
+  pub size : length k′ ≡ 88
+  pub here : PairIn r x y (keyPlanes k′ r)
+  pub before : (n : ℕ) → n < r → keyPlanes k′ n ≡ keyPlanes k n
 
 -- ShiftRows k times
 unfoldable pub turnBy : ℕ → Block → Block

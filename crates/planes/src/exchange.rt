@@ -1,6 +1,6 @@
 // Eight words of bytes become planes, and back, by exchanges of bits between two words. On the way the words are held as planes are.
 use crate::planes::Planes;
-ghost use Rattle.planes.specs.Exchange.{Alternates, Swapped, Exchanged, Interleaved, Parted, Spread, Gathered};
+ghost use Rattle.planes.specs.Exchange.{Alternates, Swapped, Exchanged, SwappedPairs, Interleaved, Parted, Spread, twice, Gathered};
 
 // Two words.
 struct Two {
@@ -86,7 +86,61 @@ pub fn spread(x: Planes) -> Planes
     exchange(interleave(e), 1, 0x5555555555555555)
 }
 
-// Planes to words: the same backwards.
+// Two pairs of words.
+pub struct Pairs {
+    pub a: u64,
+    pub b: u64,
+    pub c: u64,
+    pub d: u64,
+}
+
+// Bits of the first word of each pair change places with bits of the second.
+fn exchange_pairs(x: Pairs, s: u32, mask: u64) -> Pairs
+    requires { ⌜ Alternates s mask ⌝ }
+    ensures { λ r. ⌜ SwappedPairs s x r ⌝ }
+{
+    let p = swap(x.a, x.b, s, mask);
+    let q = swap(x.c, x.d, s, mask);
+    Pairs {
+        a: p.u,
+        b: p.v,
+        c: q.u,
+        d: q.v,
+    }
+}
+
+// Words to planes where block 1 is block 0 again, and block 3 block 2: each exchange but the last is made of half the words.
+pub fn spread_pairs(x: Pairs) -> Planes
+    ensures { λ r. ⌜ Spread (twice x) r ⌝ }
+{
+    let a = exchange_pairs(x, 8, 0x00FF00FF00FF00FF);
+    let b = exchange_pairs(a, 16, 0x0000FFFF0000FFFF);
+    let c = exchange_pairs(b, 32, 0x00000000FFFFFFFF);
+    let d = exchange_pairs(c, 4, 0x0F0F0F0F0F0F0F0F);
+    let i = Pairs {
+        a: d.a,
+        b: d.c,
+        c: d.b,
+        d: d.d,
+    };
+    let e = exchange_pairs(i, 2, 0x3333333333333333);
+    exchange(
+        Planes {
+            p0: e.a,
+            p1: e.a,
+            p2: e.b,
+            p3: e.b,
+            p4: e.c,
+            p5: e.c,
+            p6: e.d,
+            p7: e.d,
+        },
+        1,
+        0x5555555555555555,
+    )
+}
+
+// Planes to words: `spread` backwards.
 pub fn gather(x: Planes) -> Planes
     ensures { λ r. ⌜ Gathered x r ⌝ }
 {

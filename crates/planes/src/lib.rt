@@ -4,6 +4,8 @@ mod sbox; // the S-box as a circuit
 mod rotations; // planes rotated, which moves rows and columns
 mod exchange; // bits exchanged between words
 mod packing; // blocks to planes and back
+mod expansion; // key expansion of a public key, by words
+mod turned; // a key turned back for the ShiftRows that are left out
 mod sliced; // a schedule in planes
 mod schedule; // key expansion
 mod cipher; // the rounds
@@ -17,4 +19,5 @@ pub use planes::Planes;
 pub use schedule::expand_key;
 pub use schedule::sub_word;
 pub use sliced::slice_one;
+pub use sliced::slice_pair;
 pub use sliced::slice_schedule;

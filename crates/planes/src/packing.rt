@@ -5,7 +5,7 @@ use crate::planes::Planes;
 use block::Block;
 ghost use mathlib.Core.Path.{_≡_};
 ghost use mathlib.Core.List.{[], _∷_, _++_};
-ghost use Rattle.planes.specs.Packing.{bytesOf8, oddFrom, Packed, Unpacked};
+ghost use Rattle.planes.specs.Packing.{bytesOf8, OfBytes, rowsFrom, oddFrom, Packed, Unpacked};
 
 // Four blocks.
 pub struct Four {
@@ -16,9 +16,9 @@ pub struct Four {
 }
 
 // The halves of a block.
-struct Halves {
-    first: u64,
-    second: u64,
+pub struct Halves {
+    pub first: u64,
+    pub second: u64,
 }
 
 // Eight bytes as a word, the lowest first.
@@ -62,22 +62,23 @@ fn halved(x: Block) -> Halves
     }
 }
 
-// The halves with their odd bytes exchanged: these are rows 1 and 3, turned by two columns.
-fn swap_odd(x: u64, y: u64) -> Halves
-    ensures { λ r. ⌜ (bytesOf8 (r .first) ≡ oddFrom x y) × (bytesOf8 (r .second) ≡ oddFrom y x) ⌝ }
+// Two words with the bytes of some rows exchanged, for which the mask has bytes 255. Of a block's halves these rows are turned by two columns.
+pub fn swap_rows(x: u64, y: u64, mask: u64) -> Halves
+    requires { ⌜ OfBytes mask ⌝ }
+    ensures { λ r. ⌜ (bytesOf8 (r .first) ≡ rowsFrom mask (bytesOf8 x) (bytesOf8 y)) × (bytesOf8 (r .second) ≡ rowsFrom mask (bytesOf8 y) (bytesOf8 x)) ⌝ }
 {
-    let t = (x ^ y) & 0xFF00FF00FF00FF00;
+    let t = (x ^ y) & mask;
     Halves {
         first: x ^ t,
         second: y ^ t,
     }
 }
 
-// The block of two halves after the last round: ten times ShiftRows was left out, which is twice.
+// The block of two halves after the last round: ten times ShiftRows was left out, which is twice, and turns rows 1 and 3 by two columns.
 fn turned_block(x: u64, y: u64) -> Block
     ensures { λ r. ⌜ r .bytes ≡ oddFrom x y ++ oddFrom y x ⌝ }
 {
-    let p = swap_odd(x, y);
+    let p = swap_rows(x, y, 0xFF00FF00FF00FF00);
     let s = bytes(p.first);
     let t = bytes(p.second);
     Block {

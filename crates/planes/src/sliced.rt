@@ -1,46 +1,60 @@
 // A schedule in planes: words 8r to 8r + 7 are the planes of the four blocks' keys of round r.
-use crate::packing::Four;
-use crate::packing::pack;
+use crate::exchange::Pairs;
+use crate::exchange::spread_pairs;
+use crate::expansion::next_key;
+use crate::packing::Halves;
 use crate::planes::Planes;
-use aes::State;
+use crate::turned::halves_of;
+use crate::turned::turned;
+use aes::Words;
+use aes::next_constant;
 use block::Block;
 ghost use mathlib.Core.Path.{_≡_};
-ghost use Prim.Native.Nat.{_*_, _%_, _<_};
+ghost use Prim.Native.Nat.{_*_, _<_};
+ghost use lib.ListN.{length};
 ghost use Rattle.model.specs.Bytes.{put};
-ghost use Rattle.model.specs.Aes.{roundKey};
+ghost use Rattle.model.specs.Aes.{IsSBox, keyExpansion};
 ghost use Rattle.planes.specs.Lanes.{planesOf};
-ghost use Rattle.planes.specs.Sliced.{turnBy, byPair, IsSliced};
+ghost use Rattle.planes.specs.Sliced.{byPair, IsSliced, PairIn, KeyPut};
 
-// The key of round r, of which ShiftRows is undone as often as it was left out by then: four times are none.
-fn turned_key(w: &[u8; 176], r: usize) -> Block
-    requires { ⌜ r < 11 ⌝ }
-    ensures { λ s. ⌜ turnBy (r % 4) (s .bytes) ≡ roundKey (now (w .entry)) r ⌝ }
+// The planes of a round's key: x for blocks a and b, y for c and d.
+fn key_planes(x: Halves, y: Halves, r: usize) -> Planes
+    ensures { λ p. ⌜ PairIn r x y p ⌝ }
 {
-    let none = [0u8; 16];
-    let mut s = State { bytes: none }.add_round_key(w, r); // the key by itself
-    for i in 0..(4 - r % 4) % 4 {
-        s = s.shift_rows();
-    }
-    let x = s.bytes;
-    Block { bytes: x }
+    let u = turned(x, r);
+    let v = turned(y, r);
+    spread_pairs(Pairs {
+        a: u.first,
+        b: u.second,
+        c: v.first,
+        d: v.second,
+    })
 }
 
-// The schedule with the planes of round r written.
-fn put_planes(k: [u64; 88], r: usize, x: Planes) -> [u64; 88]
+// Planes written as those of round r.
+fn put_planes(k: &mut [u64; 88], r: usize, x: Planes)
     requires { ⌜ r < 11 ⌝ }
-    ensures { λ v. ⌜ v ≡ put k (8 * r) (planesOf x) ⌝ }
+    requires { ⌜ length (now k) ≡ 88 ⌝ }
+    ensures { λ _. ⌜ now (k .exit) ≡ put (now (k .entry)) (8 * r) (planesOf x) ⌝ }
 {
-    let mut v = k;
     let at = 8 * r;
-    v[at] = x.p0;
-    v[at + 1] = x.p1;
-    v[at + 2] = x.p2;
-    v[at + 3] = x.p3;
-    v[at + 4] = x.p4;
-    v[at + 5] = x.p5;
-    v[at + 6] = x.p6;
-    v[at + 7] = x.p7;
-    v
+    k[at] = x.p0;
+    k[at + 1] = x.p1;
+    k[at + 2] = x.p2;
+    k[at + 3] = x.p3;
+    k[at + 4] = x.p4;
+    k[at + 5] = x.p5;
+    k[at + 6] = x.p6;
+    k[at + 7] = x.p7;
+}
+
+// A round's key written.
+fn put_key(k: &mut [u64; 88], r: usize, x: Halves, y: Halves)
+    requires { ⌜ r < 11 ⌝ }
+    requires { ⌜ length (now k) ≡ 88 ⌝ }
+    ensures { λ _. ⌜ KeyPut r x y (now (k .entry)) (now (k .exit)) ⌝ }
+{
+    put_planes(k, r, key_planes(x, y, r));
 }
 
 // Two schedules in planes: the first for blocks a and b, the second for c and d.
@@ -49,16 +63,9 @@ pub fn slice_schedule(u: &[u8; 176], v: &[u8; 176]) -> [u64; 88]
 {
     let mut k = [0u64; 88];
     for r in 0..11 {
-        let s = turned_key(u, r);
-        let t = turned_key(v, r);
-        let x = pack(Four {
-            a: s,
-            b: s,
-            c: t,
-            d: t,
-        });
-        let next = put_planes(k, r, x);
-        k = next;
+        let x = Words::round_key(u, r);
+        let y = Words::round_key(v, r);
+        put_key(&mut k, r, halves_of(x), halves_of(y));
     }
     k
 }
@@ -68,4 +75,23 @@ pub fn slice_one(w: &[u8; 176]) -> [u64; 88]
     ensures { λ k. ⌜ IsSliced (λ b. now (w .entry)) k ⌝ }
 {
     slice_schedule(w, w)
+}
+
+// The schedules of two public keys in planes, as slice_schedule has them. A key of each is made and put into planes before the next: so none is
+// written and read again as bytes.
+pub fn slice_pair(t: &[u8; 256], i: Block, j: Block) -> [u64; 88]
+    requires { ⌜ IsSBox (now t) ⌝ }
+    ensures { λ k. ⌜ IsSliced (byPair (keyExpansion (i .bytes)) (keyExpansion (j .bytes))) k ⌝ }
+{
+    let mut k = [0u64; 88];
+    let mut x = Words::of_block(i); // the keys of round r
+    let mut y = Words::of_block(j);
+    let mut rc: u32 = 1; // the round constant of the next
+    for r in 0usize..11 {
+        put_key(&mut k, r, halves_of(x), halves_of(y));
+        x = next_key(t, x, rc);
+        y = next_key(t, y, rc);
+        rc = next_constant(rc);
+    }
+    k
 }
