@@ -192,4 +192,7 @@ static inline void keyed_4(uint64_t first, block x[4])
 
 #define NAME(operation) aesni_##operation
 #include "gates.h"
+#include "opened.h"
+#include "one.h"
 #include "work.h"
+#include "evaluate.h"

@@ -16,6 +16,10 @@ check_function tables_check;
 garble_function tables_garble;
 evaluate_function tables_evaluate;
 
+/* AES in bit planes (fixsliced.c), which garbles alone. */
+check_function fixsliced_check;
+garble_function fixsliced_garble;
+
 /* AES by the processor's instructions (aesni.c). */
 check_function aesni_check;
 garble_function aesni_garble;

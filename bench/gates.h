@@ -1,7 +1,9 @@
-/* One gate, garbled and evaluated by each scheme, over any block and any AES. To be included after `block`, its functions,
- * pi_1, pi_2, pi_4, which are AES under the fixed key, and keyed_2, keyed_4, which are AES under two keys of the call, are
- * defined. A bit times a block is taken by a mask: colours are as good as random. */
+/* One gate, garbled by each scheme, over any block and any AES. To be included after `block`, its functions, pi_4, which is
+ * AES under the fixed key, and keyed_4, which is AES under two keys of the call, are defined. A bit times a block is taken by
+ * a mask: colours are as good as random. */
 #include "files.h"
+
+#define INLINE static inline __attribute__((always_inline))
 
 /* R, and what doubling and σ make of it: both are linear, so those of the other tokens need not be worked out. */
 struct offset {
@@ -23,12 +25,6 @@ static inline block xor3(block a, block b, block c)
 static inline block garble_free(const struct offset *o, unsigned code, block xa, block xb)
 {
     return xor3(block_times(free_p(code), xa), block_times(free_q(code), xb), block_times(free_c(code), o->r));
-}
-
-/* A free gate, opened: the evaluator does without R. */
-static inline block open_free(unsigned code, block a, block b)
-{
-    return block_xor(block_times(free_p(code), a), block_times(free_q(code), b));
 }
 
 /* The cipher's input for each of the four rows, and the gate's value there: row 2c+d is that of the colours c and d. */
@@ -63,14 +59,12 @@ static inline block garble_rows(const struct offset *o, unsigned code, uint64_t 
     return x;
 }
 
-/* The two schemes of half-gates are one function each, made for the scheme that it is called with. */
-#define HALF static inline __attribute__((always_inline))
-
 /* α, β and γ of a charged code, as bits 2, 1 and 0. */
 static const uint8_t half_bits[16] = {[1] = 6, [2] = 4, [4] = 2, [8] = 0, [14] = 7, [13] = 5, [11] = 3, [7] = 1};
 
-/* Schemes 3 and 4: rows G and E, and the zero token. Under scheme 4 two keys, 2g and 2g+1, serve two blocks each. */
-HALF block garble_half(unsigned scheme, const struct offset *o, unsigned code, uint64_t g, block xa, block xb, block rows[2])
+/* Schemes 3 and 4: rows G and E, and the zero token. Under scheme 4 two keys, 2g and 2g+1, serve two blocks each. It is made
+ * for the scheme that it is called with. */
+INLINE block garble_half(unsigned scheme, const struct offset *o, unsigned code, uint64_t g, block xa, block xb, block rows[2])
 {
     unsigned bits = half_bits[code], rekeyed = scheme == 4;
     block a = block_xor(xa, block_times(bits >> 2, o->r)), b = block_xor(xb, block_times(bits >> 1 & 1, o->r));
@@ -90,29 +84,4 @@ HALF block garble_half(unsigned scheme, const struct offset *o, unsigned code, u
     rows[1] = block_xor(other, a);
     block x = xor3(h[0], h[2], block_times(bits & 1, o->r));
     return xor3(x, block_times(s, rows[0]), block_times(t, other));
-}
-
-/* Schemes 1 and 2, opened: the one row that the colours point at; block 0 stands for scheme 2's row 0. */
-static inline block open_row(unsigned scheme, uint64_t g, block a, block b, const uint8_t *rows)
-{
-    unsigned row = 2 * block_colour(a) + block_colour(b), stored = scheme == 1 || row > 0;
-    block z = block_times(stored, block_load(rows + 16 * (scheme == 1 ? row : row - stored)));
-    block k = xor3(block_double(a), block_double(block_double(b)), block_number(4 * g + row));
-    return xor3(pi_1(k), k, z);
-}
-
-/* Schemes 3 and 4, opened. */
-HALF block open_half(unsigned scheme, uint64_t g, block a, block b, const uint8_t *rows)
-{
-    unsigned rekeyed = scheme == 4;
-    block ka = rekeyed ? block_sigma(a) : block_xor(block_double(a), block_number(2 * g));
-    block kb = rekeyed ? block_sigma(b) : block_xor(block_double(b), block_number(2 * g + 1));
-    block k[2] = {ka, kb}, h[2] = {ka, kb};
-    if (rekeyed)
-        keyed_2(2 * g, h);
-    else
-        pi_2(h);
-    block both = block_xor(xor3(h[0], k[0], h[1]), k[1]);
-    block e = block_xor(block_load(rows + 16), a);
-    return xor3(both, block_times(block_colour(a), block_load(rows)), block_times(block_colour(b), e));
 }

@@ -25,6 +25,11 @@ static void run(const struct worker *w, struct subject *s, enum operation operat
         run_evaluate(w, s);
 }
 
+static int can(const struct worker *w, enum operation operation)
+{
+    return operation != EVALUATE || w->evaluate != NULL;
+}
+
 /* The time of one call; of a small circuit, the mean of as many calls as make up a large one. */
 static double time_of(const struct worker *w, struct subject *s, enum operation operation, uint8_t scheme)
 {
@@ -57,6 +62,8 @@ static void measure(struct subject *s, double (*of_size)[MOST_WORKERS][MOST_ROUN
         double gates = (double)(operation == CHECK ? s->q : s->p);
         for (unsigned turn = 0; turn < worker_count; turn++) {
             unsigned i = (leader + turn) % worker_count;
+            if (!can(&workers[i], operation))
+                continue;
             of_size[job][i][round] = time_of(&workers[i], s, operation, jobs[job].scheme) / gates;
         }
     }
@@ -67,8 +74,9 @@ static void print_all(unsigned rounds)
     for (int size = 0; size < SIZES; size++)
         for (int job = 0; job < JOBS; job++)
             for (unsigned i = 0; i < worker_count; i++)
-                print_rounds(operation_names[jobs[job].operation], jobs[job].scheme, sizes[size], workers[i].name,
-                             times[size][job][i], rounds);
+                if (can(&workers[i], jobs[job].operation))
+                    print_rounds(operation_names[jobs[job].operation], jobs[job].scheme, sizes[size], workers[i].name,
+                                 times[size][job][i], rounds);
 }
 
 /* A round goes over all circuits and jobs, so that a busy moment of the machine falls on few rounds of each. */
@@ -99,7 +107,8 @@ static int run_once(char **words)
     uint8_t scheme = (uint8_t)strtoul(words[4], NULL, 10);
     for (unsigned i = 0; i < worker_count; i++) {
         for (int operation = CHECK; operation <= EVALUATE; operation++) {
-            if (strcmp(words[2], workers[i].name) != 0 || strcmp(words[3], operation_names[operation]) != 0)
+            if (strcmp(words[2], workers[i].name) != 0 || strcmp(words[3], operation_names[operation]) != 0 ||
+                !can(&workers[i], (enum operation)operation))
                 continue;
             /* Evaluate needs a garbling: another worker's, so that it does not count. */
             run_garble(&workers[i == 0 ? 1 : 0], &s, scheme);

@@ -4,7 +4,7 @@ from math import log
 
 from results import CALLS, SCHEMES, WORKERS
 
-COLOURS = {"library": "#1f5fa8", "tables": "#d08c1d", "aesni": "#58a06c"}
+COLOURS = {"library": "#1f5fa8", "tables": "#d08c1d", "fixsliced": "#9a6fb0", "aesni": "#58a06c"}
 LINES = {1: "#1f5fa8", 2: "#8a4fa0", 3: "#c2452d", 4: "#4a7a2c"}
 WIDTH = 960
 BARS = {"left": 235, "right": 900, "top": 110}
@@ -39,14 +39,14 @@ def legend(workers, y):
 
 
 def bars(results, q):
-    """A group for each call, a bar for each worker; gives the parts and where they end. The chained rounds have none: theirs would be
-    so long that the others could not be told apart."""
+    """A group for each call, a bar for each worker that does it; gives the parts and where they end. The chained rounds have none:
+    theirs would be so long that the others could not be told apart."""
     workers = [worker for worker in results.workers() if worker in COLOURS]
     left, right = BARS["left"], BARS["right"]
-    marks = ticks(max(results.best((*call, q), worker) for call in CALLS for worker in workers))
+    doing = {call: [worker for worker in workers if results.has((*call, q), worker)] for call in CALLS}
+    marks = ticks(max(results.best((*call, q), worker) for call in CALLS for worker in doing[call]))
     scale = (right - left) / marks[-1]
-    group = 17 * len(workers) + 14
-    bottom = BARS["top"] + group * len(CALLS)
+    bottom = BARS["top"] + sum(17 * len(doing[call]) + 14 for call in CALLS)
     parts = [text(40, 40, f"Time for a charged gate, n = 128, q = {q:,}, half of the gates charged", 18, weight="bold")]
     parts += legend(workers, 75)
     for mark in marks:
@@ -55,8 +55,9 @@ def bars(results, q):
     parts.append(text((left + right) / 2, bottom + 40, "ns for a charged gate, best round (shorter is better)", 13, "middle", "#555"))
     y = BARS["top"]
     for operation, scheme in CALLS:
-        parts.append(text(left - 12, y + group / 2 - 3, f"{operation}, {SCHEMES[scheme]}", 14, "end"))
-        for worker in workers:
+        here = doing[operation, scheme]
+        parts.append(text(left - 12, y + 17 * len(here) / 2 + 4, f"{operation}, {SCHEMES[scheme]}", 14, "end"))
+        for worker in here:
             best = results.best((operation, scheme, q), worker)
             parts.append(f'<rect x="{left}" y="{y}" width="{best * scale:.1f}" height="14" fill="{COLOURS[worker]}"/>')
             parts.append(text(left + best * scale + 6, y + 11.5, f"{best:.0f}", 12, colour="#333"))

@@ -16,9 +16,11 @@ the two bests, over all runs; beside it is its range over single rounds, without
 and from hour to hour; ratios less, instructions hardly.
 
 The baselines are the same work in C (`bench/*.c`): the same files in and out, the same refusals tried first. Tables: four tables of
-256 words, the fixed key's schedule made once, two blocks side by side. AES-NI: the processor's instructions, up to four blocks side
-by side. Both take a bit times a block by a mask and use that doubling and σ are linear. Under scheme 4 both expand two keys for a charged
-gate, garbling and evaluating, round by round beside the blocks that these encipher. Compiled by gcc with `-O3 -march=native`; the library
+256 words, the fixed key's schedule made once, two blocks side by side. Fixsliced: AES in bit planes, with no look-up and no branch by a
+secret, four blocks in eight words of 64 bits; it only garbles, four calls at a time. AES-NI: the processor's instructions, up to four
+blocks side by side. All take a bit times a block by a mask and use that doubling and σ are linear. Under scheme 4 all expand two keys for a
+charged gate: tables and AES-NI, garbling and evaluating, round by round beside the blocks that these encipher; fixsliced before them, by
+look-ups, since these keys are public, and puts them in planes. Compiled by gcc with `-O3 -march=native`, fixsliced without AVX-512; the library
 is built for plain x86-64. In the same runs all that they write was compared with the library's, byte for byte, on each
 circuit measured, on one with gates that use one operand too, on one garbled with four run numbers other than 0, on one whose outputs are
 named, on 2,100 calls with a bit of an argument changed, and with every scheme byte. What is measured has run number 0 and the mark 43 48.
@@ -74,8 +76,8 @@ def main_table(results, q):
     rows = []
     for operation, scheme in CALLS + [("check", 3)]:
         key = (operation, scheme, q)
-        row = [named(operation, scheme)] + [f"{results.best(key, worker):.1f}" for worker in workers]
-        rows.append(row + [compared(results, key, *pair) for pair in pairs])
+        row = [named(operation, scheme)] + [f"{results.best(key, worker):.1f}" if results.has(key, worker) else "" for worker in workers]
+        rows.append(row + [compared(results, key, *pair) if results.has(key, *pair) else "" for pair in pairs])
     return table(head, rows)
 
 
@@ -93,11 +95,11 @@ def instruction_table(results):
     for operation, scheme in CALLS + [("check", 3)]:
         counts = results.instructions[operation, scheme, 4000]
         gates = 4000 if operation == "check" else 2000
-        row = [f"{counts[worker] / gates:.0f}" for worker in results.workers()]
-        ratio = counts["library"] / counts["tables"]
-        rows.append([named(operation, scheme)] + row + [f"**{ratio:.2f}**"])
+        row = [f"{counts[worker] / gates:.0f}" if worker in counts else "" for worker in results.workers()]
+        ratios = [f"**{counts['library'] / counts[other]:.2f}**" if other in counts else "" for other in ("tables", "fixsliced")]
+        rows.append([named(operation, scheme)] + row + ratios)
     head = ["instructions for a charged gate; check: for a gate"] + [WORKERS[worker] for worker in results.workers()]
-    return table(head + ["library : " + WORKERS["tables"]], rows)
+    return table(head + ["library : " + WORKERS[other] for other in ("tables", "fixsliced")], rows)
 
 
 def repeated_table(results):

@@ -1,8 +1,14 @@
 """The lines that measure and over_files print, read: what a round took, and what can be said of the rounds of several runs."""
 
 SCHEMES = {1: "GaX", 2: "GaXR", 3: "half-gates", 4: "re-keyed half-gates"}
-WORKERS = {"library": "the library", "chained": "the library, chained rounds", "tables": "C, AES by tables", "aesni": "C, AES-NI"}
-BASELINES = ("tables", "aesni")
+WORKERS = {
+    "library": "the library",
+    "chained": "the library, chained rounds",
+    "tables": "C, AES by tables",
+    "fixsliced": "C, fixsliced",
+    "aesni": "C, AES-NI",
+}
+BASELINES = ("tables", "fixsliced", "aesni")
 CALLS = [(operation, scheme) for operation in ("garble", "evaluate") for scheme in SCHEMES]
 
 
@@ -36,6 +42,10 @@ class Results:
     def workers(self):
         found = self.times["garble", 3, max(self.sizes())]
         return [worker for worker in WORKERS if worker in found]
+
+    def has(self, key, *workers):
+        """Whether all of these do this: one baseline only garbles."""
+        return all(worker in self.times[key] for worker in workers)
 
     def best(self, key, worker):
         return min(self.times[key][worker])

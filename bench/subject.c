@@ -10,9 +10,10 @@
 struct worker workers[MOST_WORKERS] = {
     {"library", weighhare_check, weighhare_garble, weighhare_evaluate},
     {"tables", tables_check, tables_garble, tables_evaluate},
+    {"fixsliced", fixsliced_check, fixsliced_garble, NULL},
 };
 
-unsigned worker_count = 2;
+unsigned worker_count = 3;
 
 void find_workers(void)
 {

@@ -4,7 +4,7 @@
 
 #include "baseline.h"
 
-/* An implementation: the library, its other form, or a baseline. */
+/* An implementation: the library, its other form, or a baseline. One that only garbles has null for evaluate. */
 struct worker {
     const char *name;
     check_function *check;
@@ -12,9 +12,9 @@ struct worker {
     evaluate_function *evaluate;
 };
 
-/* The library, the tables, the processor's instructions where it has them, and the library's chained rounds where they are
- * linked. The first two are always there; find_workers, called once, finds the others. */
-enum { MOST_WORKERS = 4 };
+/* The library, the tables, the planes, the processor's instructions where it has them, and the library's chained rounds where
+ * they are linked. The first three are always there; find_workers, called once, finds the others. */
+enum { MOST_WORKERS = 5 };
 extern struct worker workers[MOST_WORKERS];
 extern unsigned worker_count;
 void find_workers(void);

@@ -1,11 +1,6 @@
 /* The baseline with AES by tables: a round is four look-ups for each of the four words. The tables are made once, before
- * the program's main, and so is the schedule of the fixed key. A block is two big-endian words of 64 bits. */
-#include <stdint.h>
-#include <string.h>
-
-typedef struct {
-    uint64_t high, low;
-} block;
+ * the program's main, and so is the schedule of the fixed key. */
+#include "words.h"
 
 typedef struct {
     uint32_t word[44];
@@ -14,63 +9,6 @@ typedef struct {
 static uint8_t box[256];
 static uint32_t table[4][256];
 static schedule fixed;
-
-static inline block block_load(const uint8_t *at)
-{
-    block b;
-    memcpy(&b, at, 16);
-    return (block){__builtin_bswap64(b.high), __builtin_bswap64(b.low)};
-}
-
-static inline void block_store(uint8_t *at, block b)
-{
-    block swapped = {__builtin_bswap64(b.high), __builtin_bswap64(b.low)};
-    memcpy(at, &swapped, 16);
-}
-
-static inline block block_xor(block a, block b)
-{
-    return (block){a.high ^ b.high, a.low ^ b.low};
-}
-
-static inline block block_times(unsigned bit, block b)
-{
-    uint64_t mask = -(uint64_t)bit;
-    return (block){b.high & mask, b.low & mask};
-}
-
-static inline block block_number(uint64_t number)
-{
-    return (block){0, number};
-}
-
-/* A number in the first 8 bytes, and 0 in the last. */
-static inline block block_first(uint64_t number)
-{
-    return (block){number, 0};
-}
-
-static inline unsigned block_colour(block b)
-{
-    return b.low & 1;
-}
-
-static inline block block_coloured(block b)
-{
-    return (block){b.high, b.low | 1};
-}
-
-static inline block block_double(block b)
-{
-    uint64_t out = -(b.high >> 63);
-    return (block){b.high << 1 | b.low >> 63, b.low << 1 ^ (out & 0x87)};
-}
-
-/* σ: the sum of the halves, and the left one. */
-static inline block block_sigma(block b)
-{
-    return (block){b.high ^ b.low, b.high};
-}
 
 /* One word of a round: from four words, the bytes of one column after ShiftRows. */
 #define COLUMN(a, b, c, d) (table[0][(a) >> 24] ^ table[1][(b) >> 16 & 255] ^ table[2][(c) >> 8 & 255] ^ table[3][(d)&255])
@@ -249,4 +187,7 @@ static inline void keyed_4(uint64_t first, block x[4])
 
 #define NAME(operation) tables_##operation
 #include "gates.h"
+#include "opened.h"
+#include "one.h"
 #include "work.h"
+#include "evaluate.h"

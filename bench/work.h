@@ -1,11 +1,9 @@
-/* The operations check, garble and evaluate over the gates of gates.h. NAME(x) gives the operation's own name. To be
- * included after gates.h and `schedule`, expand and encrypt, which are AES under the seed. */
+/* The operations check and garble over the gates of gates.h. NAME(x) gives the operation's own name. To be included after
+ * gates.h and what comes from the seed: seed_of, seed_offset, seed_inputs, seed_charged and fresh_token, as one.h has them. */
 #include <string.h>
 
 #include "baseline.h"
 #include "files.h"
-
-#define INLINE static inline __attribute__((always_inline))
 
 static uint8_t answered(uint64_t answer[4], unsigned number, uint64_t first, uint64_t second)
 {
@@ -24,18 +22,6 @@ uint8_t NAME(check)(const uint8_t *circuit, size_t length, uint64_t answer[4])
     return 0;
 }
 
-/* The seed's schedule, and which of its garblings this is: a block with the run number in the first 8 bytes. */
-struct seed {
-    schedule keys;
-    block run;
-};
-
-/* What comes from the seed: the run number and a wire number, 0 for R, enciphered. */
-INLINE block seed_block(const struct seed *seed, uint64_t number)
-{
-    return encrypt(&seed->keys, block_xor(seed->run, block_number(number)));
-}
-
 /* A charged gate's record: its mark, its wire number and its rows. */
 INLINE uint8_t *write_record(uint8_t *at, size_t g, const block *rows, size_t count)
 {
@@ -48,11 +34,11 @@ INLINE uint8_t *write_record(uint8_t *at, size_t g, const block *rows, size_t co
 
 /* A charged gate: its record, its zero token; the place of the next record. */
 INLINE uint8_t *garble_charged(unsigned scheme, const struct seed *seed, const struct offset *o, unsigned code, size_t g,
-                               block xa, block xb, block *x, uint8_t *at)
+                               block xa, block xb, const uint8_t *zeros, block *x, uint8_t *at)
 {
     block rows[4];
     if (scheme == 1) {
-        block fresh = seed_block(seed, g);
+        block fresh = fresh_token(seed, zeros, g);
         *x = garble_rows(o, code, g, xa, xb, &fresh, rows);
         return write_record(at, g, rows, 4);
     }
@@ -78,7 +64,7 @@ INLINE uint8_t *garble_gates(unsigned scheme, const uint8_t *circuit, const stru
         if (is_free(code))
             x = garble_free(o, code, xa, xb);
         else
-            at = garble_charged(scheme, seed, o, code, g, xa, xb, &x, at);
+            at = garble_charged(scheme, seed, o, code, g, xa, xb, zeros, &x, at);
         block_store(zeros + 16 * (g - 1), x);
     }
     return at;
@@ -88,13 +74,11 @@ INLINE uint8_t *garble_gates(unsigned scheme, const uint8_t *circuit, const stru
 static void garble_all(unsigned scheme, const uint8_t *circuit, const struct sizes *z, const uint8_t *key, uint64_t run,
                        uint8_t *material, uint8_t *zeros, uint8_t *ones)
 {
-    struct seed seed = {expand(key), block_first(run)};
-    struct offset o = offset_of(block_coloured(seed_block(&seed, 0)));
-    for (size_t i = 0; i < z->n; i++) {
-        block x = seed_block(&seed, i + 1);
-        block_store(zeros + 16 * i, x);
-        block_store(ones + 16 * i, block_xor(x, o.r));
-    }
+    struct seed seed = seed_of(key, run);
+    struct offset o = offset_of(block_coloured(seed_offset(&seed)));
+    seed_inputs(&seed, z->n, o.r, zeros, ones);
+    if (scheme == 1)
+        seed_charged(&seed, circuit, z, zeros);
     material[0] = 0x47, material[1] = 0x48, material[2] = (uint8_t)scheme;
     memcpy(material + 3, circuit + 2, 6);
     uint8_t *at = material + 9;
@@ -133,49 +117,4 @@ uint8_t NAME(garble)(const uint8_t *circuit, size_t length, const uint8_t *seed,
         return answered(answer, 19, inputs, 0);
     garble_all(scheme, circuit, &z, seed, run, material, zeros, ones);
     return answered(answer, 0, file, 4 * z.p);
-}
-
-/* The tokens of all gates, after the inputs' tokens. */
-INLINE void evaluate_gates(unsigned scheme, const uint8_t *circuit, const struct sizes *z, const uint8_t *at, uint8_t *wires)
-{
-    const uint8_t *record = circuit + 8;
-    size_t end = z->n + z->q, step = 4 + 16 * rows_of(scheme);
-    for (size_t g = z->n + 1; g <= end; g++, record += 7) {
-        block a = block_load(wires + 16 * (number16(record + 2) - 1));
-        block b = block_load(wires + 16 * (number16(record + 4) - 1));
-        block x = open_free(record[6], a, b);
-        if (!is_free(record[6])) {
-            x = scheme >= 3 ? open_half(scheme, g, a, b, at + 4) : open_row(scheme, g, a, b, at + 4);
-            at += step;
-        }
-        block_store(wires + 16 * (g - 1), x);
-    }
-}
-
-uint8_t NAME(evaluate)(const uint8_t *circuit, size_t length, const uint8_t *tokens, size_t tokens_length,
-                       const uint8_t *material, size_t material_room, uint8_t *wires, size_t wires_room,
-                       uint64_t answer[4])
-{
-    struct sizes z;
-    uint64_t place;
-    unsigned number = check_circuit(circuit, length, &z, &place);
-    if (number != 0)
-        return answered(answer, number, place, 0);
-    if (tokens_length != 16 * z.n)
-        return answered(answer, 11, tokens_length, 0);
-    number = check_material(circuit, &z, material, material_room, &place);
-    if (number != 0)
-        return answered(answer, number, place, 0);
-    if (wires_room < 16 * (z.n + z.q))
-        return answered(answer, 19, 16 * (z.n + z.q), 0);
-    memcpy(wires, tokens, 16 * z.n);
-    if (material[2] == 1)
-        evaluate_gates(1, circuit, &z, material + 9, wires);
-    else if (material[2] == 2)
-        evaluate_gates(2, circuit, &z, material + 9, wires);
-    else if (material[2] == 3)
-        evaluate_gates(3, circuit, &z, material + 9, wires);
-    else
-        evaluate_gates(4, circuit, &z, material + 9, wires);
-    return answered(answer, 0, material[2] >= 3 ? 2 * z.p : z.p, 0);
 }
