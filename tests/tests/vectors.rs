@@ -20,22 +20,26 @@ const BY_HAND: [&str; 6] = [
 /// The functions that encipher under any key: FIPS 197's vectors run through each.
 const ENCRYPTIONS: [&str; 8] = [
     " by encrypt",
-    " by encrypt_fast",
     " by encrypt_pair, first block",
     " by encrypt_pair, second block",
-    " by encrypt_pair_under, first block",
-    " by encrypt_pair_under, second block",
     " by encrypt_each_under, first block",
     " by encrypt_each_under, second block",
+    " by encrypt_four, each block",
+    " by encrypt_four, two keys, first",
+    " by encrypt_four, two keys, second",
 ];
 
+/// The two forms of key expansion.
+const EXPANSIONS: [&str; 2] = [" by tables", " by gates"];
+
 /// What makes the schedule of π's key, and what holds it.
-const FIXED_SCHEDULES: [&str; 2] = [" by expand_key", " by fixed_schedule"];
+const FIXED_SCHEDULES: [&str; 3] = [" by expand_key", " by gates", " by fixed_schedule"];
 
 /// The lines due for a file of so many cases.
 fn lines_due(name: &str, cases: usize) -> Vec<String> {
     let ways: &[&str] = match name {
         "fips197-encryption" => &ENCRYPTIONS,
+        "fips197-key-expansion" => &EXPANSIONS,
         "fips197-fixed-key" => &FIXED_SCHEDULES,
         _ => &[""],
     };

@@ -13,18 +13,6 @@ pub struct Pair {
     pub y: Block,
 }
 
-// A block encrypted under a schedule.
-pub fn encrypt_fast(tables: &[u32; 1024], w: &[u8; 176], b: Block) -> Block
-    requires { ⌜ IsTTables (now tables) ⌝ }
-    ensures { λ r. ⌜ r .bytes ≡ cipher (now (w .entry)) (b .bytes) ⌝ }
-{
-    let mut s = Words::start(w, b);
-    for r in 1..10 {
-        s = s.round(tables, w, r);
-    }
-    s.last_round(tables, w)
-}
-
 // Two blocks encrypted under a schedule, side by side: a round of the one, then the same round of the other. Neither waits for the
 // other, so the processor works on both at once; the second is held folded, so that both fit the registers.
 pub fn encrypt_pair(tables: &[u32; 1024], w: &[u8; 176], x: Block, y: Block) -> Pair

@@ -41,28 +41,7 @@ fn next_key(tables: &[u32; 1024], k: Words, rc: u32) -> Words
     Words { a, b, c, d }
 }
 
-// Two blocks encrypted under one key, side by side as `encrypt_pair` does it.
-pub fn encrypt_pair_under(tables: &[u32; 1024], key: Block, x: Block, y: Block) -> Pair
-    requires { ⌜ IsTTables (now tables) ⌝ }
-    ensures { λ r. ⌜ (r .x .bytes ≡ aes (key .bytes) (x .bytes)) × (r .y .bytes ≡ aes (key .bytes) (y .bytes)) ⌝ }
-{
-    let first = Words::of_block(key);
-    let mut s = Words::of_block(x).add(first);
-    let mut t = Folded::of_words(Words::of_block(y).add(first));
-    let mut k = next_key(tables, first, 1); // the key of round r
-    let mut rc: u32 = 2; // the round constant of the next
-    for r in 1usize..10 {
-        s = s.keyed_round(tables, k);
-        t = t.keyed_round(tables, k);
-        k = next_key(tables, k, rc);
-        rc = next_constant(rc);
-    }
-    let p = s.keyed_last(tables, k);
-    let q = t.words().keyed_last(tables, k);
-    Pair { x: p, y: q }
-}
-
-// Two blocks encrypted under a key each.
+// Two blocks encrypted under a key each, side by side as `encrypt_pair` does it.
 pub fn encrypt_each_under(tables: &[u32; 1024], i: Block, x: Block, j: Block, y: Block) -> Pair
     requires { ⌜ IsTTables (now tables) ⌝ }
     ensures { λ r. ⌜ (r .x .bytes ≡ aes (i .bytes) (x .bytes)) × (r .y .bytes ≡ aes (j .bytes) (y .bytes)) ⌝ }

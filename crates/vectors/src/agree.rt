@@ -4,12 +4,13 @@ use crate::ciphers::block_of;
 use crate::ciphers::each_first;
 use crate::ciphers::each_second;
 use crate::ciphers::encryption;
-use crate::ciphers::encryption_fast;
 use crate::ciphers::encryption_first;
 use crate::ciphers::encryption_second;
-use crate::ciphers::under_first;
-use crate::ciphers::under_second;
+use crate::ciphers::in_planes;
+use crate::ciphers::in_planes_first;
+use crate::ciphers::in_planes_second;
 use crate::schedules::expansion;
+use crate::schedules::expansion_by_gates;
 use crate::schedules::expansion_word;
 use crate::schedules::fixed_expansion;
 use crate::single::single_run;
@@ -106,9 +107,9 @@ pub fn pick_run<'a>(
 }
 
 // By group: 1 encryption, 2 key expansion, 3 doubling, 4 check, 5 plain, 7 encode, 8 pick, 10 evaluate,
-// 11 decode, 12 the chain, 14 encryption by tables, 15 and 16 as the first and the second block of a pair, 17 key expansion word by
-// word, 18 the schedule of π's key, 19 and 20 encryption as the first and the second block of a pair whose key is expanded beside them,
-// 21 and 22 the same with a key each, 23 σ, 24 the outputs' tokens.
+// 11 decode, 12 the chain, 14 encryption in planes, 15 and 16 by tables as the first and the second block of a pair, 17 key expansion word by
+// word, 18 the schedule of π's key, 19 and 20 encryption in planes under the first and the second of two keys, 21 and 22 as the first and the second
+// block of a pair whose keys are expanded beside them, 23 σ, 24 the outputs' tokens, 25 key expansion by the S-box's circuit.
 pub fn agrees<'a>(
     group: u8,
     a: &'a [u8],
@@ -128,17 +129,18 @@ pub fn agrees<'a>(
         7 => single_run(group, a, b, c, d, e, f, g),
         8 => pick_run(a, b, c, d, e),
         12 => chain_run(a, b, c, d, e, f, g),
-        14 => encryption_fast(a, b, c),
+        14 => in_planes(a, b, c),
         15 => encryption_first(a, b, c),
         16 => encryption_second(a, b, c),
         17 => expansion_word(a, b, c),
         18 => fixed_expansion(b),
-        19 => under_first(a, b, c),
-        20 => under_second(a, b, c),
+        19 => in_planes_first(a, b, c),
+        20 => in_planes_second(a, b, c),
         21 => each_first(a, b, c),
         22 => each_second(a, b, c),
         23 => sigma(a, b),
         24 => listed_run(group, a, b, c, d, e),
+        25 => expansion_by_gates(a, b),
         _ => single_run(group, a, b, c, d, d, e, f),
     }
 }

@@ -30,19 +30,8 @@ fn run_file(group: u8, path: &[u8]) {
 // Outside vectors, 01's examples and σ. What enciphers stands in more than one form, and each gets the vectors of FIPS 197.
 fn run_outside() {
     run_by(1, b"fips197-encryption", b" by encrypt");
-    run_by(14, b"fips197-encryption", b" by encrypt_fast");
     run_by(15, b"fips197-encryption", b" by encrypt_pair, first block");
     run_by(16, b"fips197-encryption", b" by encrypt_pair, second block");
-    run_by(
-        19,
-        b"fips197-encryption",
-        b" by encrypt_pair_under, first block",
-    );
-    run_by(
-        20,
-        b"fips197-encryption",
-        b" by encrypt_pair_under, second block",
-    );
     run_by(
         21,
         b"fips197-encryption",
@@ -53,9 +42,22 @@ fn run_outside() {
         b"fips197-encryption",
         b" by encrypt_each_under, second block",
     );
-    run_file(2, b"fips197-key-expansion");
+    run_by(14, b"fips197-encryption", b" by encrypt_four, each block");
+    run_by(
+        19,
+        b"fips197-encryption",
+        b" by encrypt_four, two keys, first",
+    );
+    run_by(
+        20,
+        b"fips197-encryption",
+        b" by encrypt_four, two keys, second",
+    );
+    run_by(2, b"fips197-key-expansion", b" by tables");
+    run_by(25, b"fips197-key-expansion", b" by gates");
     run_file(17, b"fips197-words");
     run_by(2, b"fips197-fixed-key", b" by expand_key");
+    run_by(25, b"fips197-fixed-key", b" by gates");
     run_by(18, b"fips197-fixed-key", b" by fixed_schedule");
     run_file(3, b"doubling");
     run_file(23, b"sigma");

@@ -13,6 +13,12 @@ pub fn expansion(key: &[u8], schedule: &[u8]) -> bool {
     same(&w, schedule)
 }
 
+// The same by the S-box's circuit.
+pub fn expansion_by_gates(key: &[u8], schedule: &[u8]) -> bool {
+    let w = planes::expand_key(block_of(key));
+    same(&w, schedule)
+}
+
 // Key, i of 2 bytes, and word i of its schedule: the 4 bytes from 4i on.
 pub fn expansion_word(key: &[u8], index: &[u8], word: &[u8]) -> bool {
     if index.len() != 2 {
