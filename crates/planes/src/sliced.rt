@@ -1,9 +1,11 @@
-// A schedule in planes: words 8r to 8r + 7 are the planes of the four blocks' keys of round r.
+// A schedule in planes: words 8r to 8r + 7 are the planes of the four blocks' keys of round r. From round 1 on they have hex 63 added to every
+// byte, for SubBytes (§5.1.1), which leaves it out: MixColumns, {02} + {03} + {01} + {01} = {01} times each, does not change it.
 use crate::exchange::Pairs;
 use crate::exchange::spread_pairs;
 use crate::expansion::next_key;
 use crate::packing::Halves;
 use crate::planes::Planes;
+use crate::sbox::add_63;
 use crate::turned::halves_of;
 use crate::turned::turned;
 use aes::Words;
@@ -23,12 +25,16 @@ fn key_planes(x: Halves, y: Halves, r: usize) -> Planes
 {
     let u = turned(x, r);
     let v = turned(y, r);
-    spread_pairs(Pairs {
+    let p = spread_pairs(Pairs {
         a: u.first,
         b: u.second,
         c: v.first,
         d: v.second,
-    })
+    });
+    if r == 0 {
+        return p;
+    }
+    add_63(p)
 }
 
 // Planes written as those of round r.
