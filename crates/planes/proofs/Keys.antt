@@ -85,13 +85,10 @@ held-later zero n s = absurd (n refl)
 held-later (suc r) n s = refl
 
 -- the keys x and y, turned back to g and h, and these spread
-pub PairBare : ℕ → Halves → Halves → Planes → Type 0
-PairBare r x y p = (b : ℕ) → b < 4 → blockAt (r % 4) b p ≡ byPair (ofHalves x) (ofHalves y) b
-
-pub pair-bare : (r : ℕ) (x y g h : Halves) (p : Planes) → turnBy (r % 4) (ofHalves g) ≡ ofHalves x → turnBy (r % 4) (ofHalves h) ≡ ofHalves y →
-    Spread (twice (record { a = g .first; b = g .second; c = h .first; d = h .second })) p → PairBare r x y p
-unfolding PairBare ofHalves twice planesOf
-pair-bare r x y g h p is-g is-h is-p = each
+pub pair-in : (r : ℕ) (x y g h : Halves) (p : Planes) → turnBy (r % 4) (ofHalves g) ≡ ofHalves x → turnBy (r % 4) (ofHalves h) ≡ ofHalves y →
+    Spread (twice (record { a = g .first; b = g .second; c = h .first; d = h .second })) p → PairIn r x y p
+unfolding PairIn ofHalves twice planesOf
+pair-in r x y g h p is-g is-h is-p = each
   where
     q : Planes
     q = twice (record { a = g .first; b = g .second; c = h .first; d = h .second })
@@ -103,30 +100,40 @@ pair-bare r x y g h p is-g is-h is-p = each
     each (suc (suc (suc zero))) l = turned-block p 3 (ofHalves h) (packs q p is-p 3 l (ofHalves h) refl) (r % 4) (omega arith) ∙ is-h
     each (suc (suc (suc (suc b)))) l = absurd (omega arith)
 
--- in round 0, and with hex 63 in the others
-pub pair-first : (r : ℕ) (x y : Halves) (p : Planes) → r ≡ 0 → PairBare r x y p → PairIn r x y p
-unfolding PairIn PairBare held
-pair-first r x y p e is-p b hb = is-p b hb ∙ ap (λ (n : ℕ). held n (byPair (ofHalves x) (ofHalves y) b)) (sym e)
+-- q are the planes as they are written: in round 0, and with hex 63 in the others
+HeldIn : ℕ → Halves → Halves → Planes → Type 0
+HeldIn r x y q = (b : ℕ) → b < 4 → blockAt (r % 4) b q ≡ held r (byPair (ofHalves x) (ofHalves y) b)
 
-pub pair-later : (r : ℕ) (x y : Halves) (p q : Planes) → (r ≡ 0 → ⊥) → PairBare r x y p → Lanewise (λ b. bitXor b 0x63) p q → PairIn r x y q
-unfolding PairIn PairBare
-pair-later r x y p q n is-p is-q b hb =
+held-first : (r : ℕ) (x y : Halves) (p : Planes) → r ≡ 0 → PairIn r x y p → HeldIn r x y p
+unfolding PairIn HeldIn held
+held-first r x y p e is-p b hb = is-p b hb ∙ ap (λ (n : ℕ). held n (byPair (ofHalves x) (ofHalves y) b)) (sym e)
+
+held-63 : (r : ℕ) (x y : Halves) (p q : Planes) → (r ≡ 0 → ⊥) → PairIn r x y p → Lanewise (λ b. bitXor b 0x63) p q → HeldIn r x y q
+unfolding PairIn HeldIn
+held-63 r x y p q n is-p is-q b hb =
     block-63 (r % 4) b hb p q is-q ∙ ap (λ (s : Block). s ⊕ all63) (is-p b hb) ∙ sym (held-later r n (byPair (ofHalves x) (ofHalves y) b))
 
-pub key-put : (r : ℕ) (x y : Halves) (p : Planes) (k k′ : List ℕ) → r < 11 → length k ≡ 88 → PairIn r x y p → k′ ≡ put k (8 * r) (planesOf p) → KeyPut r x y k k′
-unfolding PairIn
-key-put r x y p k k′ hr l is-p e = record {
-  size = ap length e ∙ put-length k (8 * r) (planesOf p) room ∙ l;
-  here = λ b hb. ap (blockAt (r % 4) b) written ∙ is-p b hb;
-  before =
-      λ n g. keys-are k′ n (keyPlanes k n) (λ i h. ap (λ (l : List ℕ). getD l (8 * n + i) 0) e ∙ put-before k (planesOf p) (8 * r) room (8 * n + i) (omega arith) ∙ key-word k n i h);
-}
-  where
-    room : 8 * r + length (planesOf p) ≤ length k
-    room = omega (arith, eight-words p)
+module _ (r : ℕ) (x y : Halves) (k k′ : List ℕ) (hr : r < 11) (l : length k ≡ 88) where
+  key-put : (q : Planes) → HeldIn r x y q → k′ ≡ put k (8 * r) (planesOf q) → KeyPut r x y k k′
+  unfolding HeldIn
+  key-put q is-q e = record {
+    size = ap length e ∙ put-length k (8 * r) (planesOf q) room ∙ l;
+    here = λ b hb. ap (blockAt (r % 4) b) written ∙ is-q b hb;
+    before =
+        λ n g. keys-are k′ n (keyPlanes k n) (λ i h. ap (λ (l : List ℕ). getD l (8 * n + i) 0) e ∙ put-before k (planesOf q) (8 * r) room (8 * n + i) (omega arith) ∙ key-word k n i h);
+  }
+    where
+      room : 8 * r + length (planesOf q) ≤ length k
+      room = omega (arith, eight-words q)
 
-    written : keyPlanes k′ r ≡ p
-    written = keys-are k′ r p (λ i h. ap (λ (l : List ℕ). getD l (8 * r + i) 0) e ∙ put-here k (planesOf p) (8 * r) room i (omega (arith, eight-words p)))
+      written : keyPlanes k′ r ≡ q
+      written = keys-are k′ r q (λ i h. ap (λ (l : List ℕ). getD l (8 * r + i) 0) e ∙ put-here k (planesOf q) (8 * r) room i (omega (arith, eight-words q)))
+
+  pub first-put : (p : Planes) → r ≡ 0 → PairIn r x y p → k′ ≡ put k (8 * r) (planesOf p) → KeyPut r x y k k′
+  first-put p z is-p e = key-put p (held-first r x y p z is-p) e
+
+  pub later-put : (p q : Planes) → (r ≡ 0 → ⊥) → PairIn r x y p → Lanewise (λ b. bitXor b 0x63) p q → k′ ≡ put k (8 * r) (planesOf q) → KeyPut r x y k k′
+  later-put p q n is-p is-q e = key-put q (held-63 r x y p q n is-p is-q) e
 
 -- ---- the loop
 
@@ -150,7 +157,6 @@ side n r (suc d) h e = less (omega arith)
 -- x and y are the keys of round r
 pub sliced-turn : {u v k k′ : List ℕ} {r : ℕ} {x y : Halves} → SlicedTo u v r k → r < 11 → ofHalves x ≡ roundKey u r → ofHalves y ≡ roundKey v r → KeyPut r x y k k′ →
     SlicedTo u v (r + 1) k′
-unfolding PairIn
 sliced-turn {u} {v} {k} {k′} {r} {x} {y} inv hr is-x is-y new = record { within = omega arith; size = new .size; so-far = λ n h b hb. each n b hb (side n r (r - n) h refl) }
   where
     each : (n b : ℕ) → b < 4 → Side n r → blockAt (n % 4) b (keyPlanes k′ n) ≡ held n (roundKey (byPair u v b) n)

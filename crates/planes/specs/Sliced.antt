@@ -43,12 +43,12 @@ byPair u v (suc (suc b)) = v
 
 -- p has the key x of round r for blocks 0 and 1, and y for the others, their rows turned likewise
 unfoldable pub PairIn : ℕ → Halves → Halves → Planes → Type 0
-PairIn r x y p = (b : ℕ) → b < 4 → blockAt (r % 4) b p ≡ held r (byPair (ofHalves x) (ofHalves y) b)
+PairIn r x y p = (b : ℕ) → b < 4 → blockAt (r % 4) b p ≡ byPair (ofHalves x) (ofHalves y) b
 
--- k′ is k with these keys put in as those of round r
+-- k′ is k with these keys put in as those of round r, with hex 63 where it belongs
 pub record KeyPut (r : ℕ) (x y : Halves) (k k′ : List ℕ) : Type 0 where
   pub size : length k′ ≡ 88
-  pub here : PairIn r x y (keyPlanes k′ r)
+  pub here : (b : ℕ) → b < 4 → blockAt (r % 4) b (keyPlanes k′ r) ≡ held r (byPair (ofHalves x) (ofHalves y) b)
   pub before : (n : ℕ) → n < r → keyPlanes k′ n ≡ keyPlanes k n
 
 -- ShiftRows k times

@@ -25,16 +25,12 @@ fn key_planes(x: Halves, y: Halves, r: usize) -> Planes
 {
     let u = turned(x, r);
     let v = turned(y, r);
-    let p = spread_pairs(Pairs {
+    spread_pairs(Pairs {
         a: u.first,
         b: u.second,
         c: v.first,
         d: v.second,
-    });
-    if r == 0 {
-        return p;
-    }
-    add_63(p)
+    })
 }
 
 // Planes written as those of round r.
@@ -54,13 +50,18 @@ fn put_planes(k: &mut [u64; 88], r: usize, x: Planes)
     k[at + 7] = x.p7;
 }
 
-// A round's key written.
+// A round's key written, with hex 63 from round 1 on.
 fn put_key(k: &mut [u64; 88], r: usize, x: Halves, y: Halves)
     requires { ⌜ r < 11 ⌝ }
     requires { ⌜ length (now k) ≡ 88 ⌝ }
     ensures { λ _. ⌜ KeyPut r x y (now (k .entry)) (now (k .exit)) ⌝ }
 {
-    put_planes(k, r, key_planes(x, y, r));
+    let p = key_planes(x, y, r);
+    if r == 0 {
+        put_planes(k, r, p);
+    } else {
+        put_planes(k, r, add_63(p));
+    }
 }
 
 // Two schedules in planes: the first for blocks a and b, the second for c and d.
