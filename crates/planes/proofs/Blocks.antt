@@ -7,11 +7,13 @@ use lib.ListN.{getD}
 use Rattle.model.specs.Bytes.{tabulate}
 use Rattle.model.specs.Aes.{Block, _⊕_, sBox, mixByte, mixWord, subBytes, shiftRows, mixColumns}
 use Rattle.model.proofs.Lists.{entry, from-cong}
+use Rattle.model.proofs.XorRules.{sums}
+use Rattle.model.proofs.Mix.{xtime-sum, mix-sum}
 use Rattle.planes.specs.declared.planes.Planes.{Planes}
 use Rattle.planes.specs.Lanes.{byteAt, laneOf, blockAt, Lanewise, Added}
 use Rattle.planes.specs.Mixing.{below, MixedBy}
-use Rattle.planes.specs.Sliced.{turnBy}
-use Rattle.planes.proofs.Lanes.{Agree, at-both}
+use Rattle.planes.specs.Sliced.{turnBy, all63}
+use Rattle.planes.proofs.Lanes.{Agree, at-both, byte-lt}
 
 in-lanes : (m n b : ℕ) → b < 4 → m % 4 * 16 + n % 4 * 4 + b < 64
 in-lanes m n b h = omega arith
@@ -26,11 +28,17 @@ at-byte k b q i h = sym (entry 0 16 (λ i. byteAt q (laneOf k b i)) i h)
 -- ---- SubBytes and AddRoundKey
 
 module _ (k b : ℕ) (hb : b < 4) where
-  pub sub-block : (q r : Planes) → Lanewise sBox q r → blockAt k b r ≡ subBytes (blockAt k b q)
-  unfolding blockAt subBytes Lanewise
+  pub sub-block : (q r : Planes) → Lanewise (λ b. bitXor (sBox b) 0x63) q r → blockAt k b r ≡ subBytes (blockAt k b q) ⊕ all63
+  unfolding blockAt subBytes Lanewise _⊕_ all63
   sub-block q r e =
-      from-cong 0 16 (λ i. byteAt r (laneOf k b i)) (λ i. sBox (getD (blockAt k b q) i 0))
-      (λ i h. e (laneOf k b i) (lane-lt k b i hb) ∙ ap sBox (at-byte k b q i h))
+      from-cong 0 16 (λ i. byteAt r (laneOf k b i)) (λ i. bitXor (sBox (getD (blockAt k b q) i 0)) 0x63)
+      (λ i h. e (laneOf k b i) (lane-lt k b i hb) ∙ ap (λ (x : ℕ). bitXor (sBox x) 0x63) (at-byte k b q i h))
+
+  pub block-63 : (q r : Planes) → Lanewise (λ b. bitXor b 0x63) q r → blockAt k b r ≡ blockAt k b q ⊕ all63
+  unfolding blockAt Lanewise _⊕_ all63
+  block-63 q r e =
+      from-cong 0 16 (λ i. byteAt r (laneOf k b i)) (λ i. bitXor (getD (blockAt k b q) i 0) 0x63)
+      (λ i h. e (laneOf k b i) (lane-lt k b i hb) ∙ ap (λ (x : ℕ). bitXor x 0x63) (at-byte k b q i h))
 
   pub add-block : (p q r : Planes) → Added p q r → blockAt k b r ≡ blockAt k b p ⊕ blockAt k b q
   unfolding blockAt _⊕_ Added
@@ -104,3 +112,22 @@ module _ (k b : ℕ) (hk : k < 4) (hb : b < 4) where
       ∙ ap₂ (λ (x y : ℕ). mixByte x y (byte (below k (below k l))) (byte (below k (below k (below k l))))) (at-byte k b q i h) (ap byte d1 ∙ at-byte k b q (next i) h1)
       ∙ ap₂ (mixByte (got i) (got (next i))) (ap byte d2 ∙ at-byte k b q (next (next i)) h2) (ap byte d3 ∙ at-byte k b q (next (next (next i))) h3))
       ∙ mix-by-next (blockAt k b q)
+
+-- ---- hex 63, through ShiftRows and MixColumns: {02} ⊕ {03} ⊕ {01} ⊕ {01} is {01}
+
+pub shift-63 : (s : Block) → shiftRows (s ⊕ all63) ≡ shiftRows s ⊕ all63
+unfolding shiftRows _⊕_ all63
+shift-63 s = refl
+
+mix-same : (a b c d h : ℕ) → a < 256 → b < 256 → h < 256 → mixByte (bitXor a h) (bitXor b h) (bitXor c h) (bitXor d h) ≡ bitXor (mixByte a b c d) h
+mix-same a b c d h ha hb hh = rw (mix-sum (bitXor a h) (bitXor b h) (bitXor c h) (bitXor d h), mix-sum a b c d, xtime-sum a h ha hh, xtime-sum b h hb hh) (simp sums)
+
+-- of a state in planes, whose bytes are bytes
+pub mix-63 : (k b : ℕ) (q : Planes) → mixColumns (blockAt k b q ⊕ all63) ≡ mixColumns (blockAt k b q) ⊕ all63
+unfolding mixColumns mixWord blockAt _⊕_ all63
+mix-63 k b q =
+    let byte : ℕ → ℕ = λ i. byteAt q (laneOf k b i) in
+    let lt : (i : ℕ) → byte i < 256 = λ i. byte-lt q (laneOf k b i) in
+    from-cong 0 16 (λ i. mixByte (bitXor (byte i) 0x63) (bitXor (byte (next i)) 0x63) (bitXor (byte (next (next i))) 0x63) (bitXor (byte (next (next (next i)))) 0x63))
+    (λ i. bitXor (mixByte (byte i) (byte (next i)) (byte (next (next i))) (byte (next (next (next i))))) 0x63)
+    (λ i h. mix-same (byte i) (byte (next i)) (byte (next (next i))) (byte (next (next (next i)))) 0x63 (lt i) (lt (next i)) (omega arith))

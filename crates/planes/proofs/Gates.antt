@@ -1,11 +1,10 @@
--- A circuit on words is the circuit on bits, in every lane; so SubBytes on planes is the S-box in every lane. Assumes nothing.
+-- A circuit on words is the circuit on bits, in every lane; so SubBytes on planes is the S-box in every lane, but for hex 63. Assumes nothing.
 use mathlib.Core.Path.{_≡_, refl, sym, ap, ap₂, _∙_}
 use mathlib.Core.List.{List, [], _∷_}
 use Prim.Native.Nat.{ℕ, _-_, _<_}
-use lib.Bits.{bitXor, bitAnd, xor-zero-r}
+use lib.Bits.{bitXor, bitAnd}
 use lib.ListN.{getD, List·getD-map}
 use Rattle.model.specs.Aes.{xtime, mulBits, gmul, squares, inverse, bit, affineBit, affineBits, sBox}
-use Rattle.model.proofs.Xor.{xor-assoc}
 use Rattle.planes.specs.declared.planes.Planes.{Planes}
 use Rattle.planes.specs.Circuit.{Gate, xor, and, gateOf, run, picks, subGates, subOuts, subCircuit}
 use Rattle.planes.specs.Lanes.{planesOf, lane, fromBits, byteAt, Lanewise}
@@ -43,9 +42,9 @@ sub-byte : (x : ℕ) → x < 256 → fromBits (subCircuit (bitsOf x)) ≡ bitXor
 unfolding xtime mulBits gmul squares inverse bit affineBit affineBits sBox gateOf run picks subGates subOuts subCircuit fromBits
 sub-byte = at-each 256 (λ x. fromBits (subCircuit (bitsOf x))) (λ x. bitXor (sBox x) 0x63) refl
 
-subbed : (q r : Planes) → planesOf r ≡ subCircuit (planesOf q) → (l : ℕ) → byteAt r l ≡ bitXor (sBox (byteAt q l)) 0x63
-unfolding byteAt
-subbed q r e l =
+pub substitutes : (q r : Planes) → planesOf r ≡ subCircuit (planesOf q) → Lanewise (λ b. bitXor (sBox b) 0x63) q r
+unfolding Lanewise byteAt
+substitutes q r e l h =
     ap (λ (v : List ℕ). fromBits (lane l v)) e ∙ ap fromBits (sub-lane l (planesOf q)) ∙ ap (λ (v : List ℕ). fromBits (subCircuit v)) (lane-bits q l)
     ∙ sub-byte (byteAt q l) (byte-lt q l)
 
@@ -66,8 +65,3 @@ negates q r e l h =
     let one : (x : ℕ) → bit (bitXor x ones) l ≡ bitXor (bit x l) 1 = λ x. bit-xor x ones l ∙ ap (bitXor (bit x l)) (all-ones l h) in
     ap (λ (v : List ℕ). fromBits (lane l v)) e ∙ ap fromBits (eight (one (q .p0)) (one (q .p1)) refl refl refl (one (q .p5)) (one (q .p6)) refl)
     ∙ ap (λ (v : List ℕ). fromBits (negated v 1)) (lane-bits q l) ∙ negated-byte (byteAt q l) (byte-lt q l)
-
-pub substitutes : (q s r : Planes) → planesOf s ≡ subCircuit (planesOf q) → Lanewise (λ b. bitXor b 0x63) s r → Lanewise sBox q r
-unfolding Lanewise
-substitutes q s r e f l h =
-    f l h ∙ ap (λ (b : ℕ). bitXor b 0x63) (subbed q s e l) ∙ xor-assoc (sBox (byteAt q l)) 0x63 0x63 ∙ xor-zero-r (sBox (byteAt q l))

@@ -15,7 +15,7 @@ use Rattle.model.proofs.XorRules.{xor-self-left}
 use Rattle.planes.specs.declared.planes.Planes.{Planes}
 use Rattle.planes.specs.Lanes.{planesOf, lane, fromBits, byteAt, laneOf, blockAt}
 use Rattle.planes.specs.Exchange.{From, inWord, inByte, outLane, Spread, Gathered}
-use Rattle.planes.specs.Packing.{byteOf, bytesOf8, OfBytes, rowsFrom, oddFrom}
+use Rattle.planes.specs.Packing.{byteOf, bytesOf8, OfBytes, rowsFrom}
 use Rattle.planes.proofs.Lanes.{eight, at-each, at-both, bitsOf, from-bits, lane-is}
 use Rattle.planes.proofs.Shifts.{bit-right}
 use Rattle.planes.proofs.Swaps.{xor-twice}
@@ -160,25 +160,17 @@ abbrev list16 : List ℕ → List ℕ → List ℕ
 list16 s t =
     getD s 0 0 ∷ getD s 1 0 ∷ getD s 2 0 ∷ getD s 3 0 ∷ getD s 4 0 ∷ getD s 5 0 ∷ getD s 6 0 ∷ getD s 7 0 ∷ getD t 0 0 ∷ getD t 1 0 ∷ getD t 2 0 ∷ getD t 3 0 ∷ getD t 4 0 ∷ getD t 5 0 ∷ getD t 6 0 ∷ getD t 7 0 ∷ []
 
-pub two-halves : (s t : List ℕ) (x y u v : ℕ) → s ≡ bytesOf8 u → t ≡ bytesOf8 v → bytesOf8 u ≡ oddFrom x y → bytesOf8 v ≡ oddFrom y x → list16 s t ≡ oddFrom x y ++ oddFrom y x
-unfolding oddFrom rowsFrom
-two-halves s t x y u v a b c d = ap₂ list16 (a ∙ c) (b ∙ d)
+pub two-halves : (s t : List ℕ) (x y : ℕ) → s ≡ bytesOf8 x → t ≡ bytesOf8 y → list16 s t ≡ bytesOf8 x ++ bytesOf8 y
+unfolding bytesOf8
+two-halves s t x y a b = ap₂ list16 a b
 
--- byte i of the block is in the word of its half, or in an odd row in the other
-abbrev halfAt : ℕ → ℕ
-halfAt i = (i / 8 + i % 2) % 2
-
-by-half : (x y : ℕ) → oddFrom x y ++ oddFrom y x ≡ tabulate 16 (λ i. byteOf (cond (eqb (halfAt i) 0) x y) (i % 8))
-unfolding oddFrom rowsFrom bytesOf8
-by-half x y = refl
-
-pub unpacks : (p q : Planes) → Gathered p q → (b : ℕ) → b < 4 →
-    oddFrom (getD (planesOf q) (b * 2) 0) (getD (planesOf q) (b * 2 + 1) 0) ++ oddFrom (getD (planesOf q) (b * 2 + 1) 0) (getD (planesOf q) (b * 2) 0) ≡ blockAt 2 b p
+pub unpacks : (p q : Planes) → Gathered p q → (b : ℕ) → b < 4 → bytesOf8 (getD (planesOf q) (b * 2) 0) ++ bytesOf8 (getD (planesOf q) (b * 2 + 1) 0) ≡ blockAt 2 b p
 unfolding blockAt
 unpacks p q is-q b hb =
-    by-half (getD (planesOf q) (b * 2) 0) (getD (planesOf q) (b * 2 + 1) 0)
-    ∙ from-cong 0 16 (λ i. byteOf (cond (eqb (halfAt i) 0) (getD (planesOf q) (b * 2) 0) (getD (planesOf q) (b * 2 + 1) 0)) (i % 8)) (λ i. byteAt p (laneOf 2 b i))
+    let x : ℕ = getD (planesOf q) (b * 2) 0 in
+    let y : ℕ = getD (planesOf q) (b * 2 + 1) 0 in
+    sym (by-bytes x y)
+    ∙ from-cong 0 16 (λ i. byteOf (cond (eqb (i / 8) 0) x y) (i % 8)) (λ i. byteAt p (laneOf 2 b i))
     (λ i h.
-    let c : halfAt i < 2 = mod-lt (i / 8 + i % 2) (zero-lt-suc 1) in
-    let l : outLane (b * 2 + halfAt i) (i % 8) ≡ laneOf 2 b i = at-both 4 16 (λ b i. outLane (b * 2 + halfAt i) (i % 8)) (λ b i. laneOf 2 b i) refl b i hb h in
-    the-word q b (halfAt i) (i % 8) c ∙ byte-out p q is-q (b * 2 + halfAt i) (i % 8) (word-lt b (halfAt i) hb c) (rest-lt i) ∙ ap (byteAt p) l)
+    let l : outLane (b * 2 + i / 8) (i % 8) ≡ laneOf 2 b i = at-both 4 16 (λ b i. outLane (b * 2 + i / 8) (i % 8)) (λ b i. laneOf 2 b i) refl b i hb h in
+    the-word q b (i / 8) (i % 8) (half-lt i h) ∙ byte-out p q is-q (b * 2 + i / 8) (i % 8) (word-lt b (i / 8) hb (half-lt i h)) (rest-lt i) ∙ ap (byteAt p) l)

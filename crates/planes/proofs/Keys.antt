@@ -3,10 +3,11 @@ use mathlib.Core.Path.{_≡_, refl, sym, ap, _∙_}
 use mathlib.Core.List.{List, [], _∷_, _++_, append-assoc}
 use Prim.Native.Nat.{ℕ, zero, suc, _+_, _*_, _-_, _%_, _<_, _≤_}
 use native.Mathlib.Omega.{arith}
+use lib.Bits.{bitXor}
 use lib.ListN.{getD, length, take, drop, set, List·getD-append}
 use lib.Seq.{sets-eq, getD-append-add, getD-take, length-take-le, drop-drop}
 use Rattle.model.specs.Bytes.{over, put}
-use Rattle.model.specs.Aes.{xtime, powerOfX, roundKey, IsExpansion, keyExpansion}
+use Rattle.model.specs.Aes.{Block, _⊕_, xtime, powerOfX, roundKey, IsExpansion, keyExpansion}
 use Rattle.model.proofs.Lists.{entry}
 use Rattle.model.proofs.Buffers.{put-length}
 use Rattle.model.proofs.Expansion.{expansion-is}
@@ -17,12 +18,12 @@ use Rattle.aes.proofs.Columns.{key-state}
 use Rattle.aes.proofs.NextKeys.{power-byte, next-round-key, first-key}
 use Rattle.planes.specs.declared.planes.Planes.{Planes}
 use Rattle.planes.specs.declared.packing.Halves.{Halves}
-use Rattle.planes.specs.Lanes.{planesOf, blockAt}
+use Rattle.planes.specs.Lanes.{planesOf, blockAt, Lanewise}
 use Rattle.planes.specs.Exchange.{Spread, twice}
 use Rattle.planes.specs.Packing.{ofHalves}
-use Rattle.planes.specs.Sliced.{keyPlanes, IsSliced, byPair, PairIn, KeyPut, turnBy}
+use Rattle.planes.specs.Sliced.{keyPlanes, all63, held, IsSliced, byPair, PairIn, KeyPut, turnBy}
 use Rattle.planes.proofs.Halves.{packs}
-use Rattle.planes.proofs.Blocks.{turned-block}
+use Rattle.planes.proofs.Blocks.{block-63, turned-block}
 
 -- ---- planes stored
 
@@ -78,6 +79,11 @@ by-pair u v s t r e f zero = e
 by-pair u v s t r e f (suc zero) = e
 by-pair u v s t r e f (suc (suc b)) = f
 
+held-later : (r : ℕ) → (r ≡ 0 → ⊥) → (s : Block) → held r s ≡ s ⊕ all63
+unfolding held
+held-later zero n s = absurd (n refl)
+held-later (suc r) n s = refl
+
 -- the keys x and y, turned back to g and h, and these spread
 pub pair-in : (r : ℕ) (x y g h : Halves) (p : Planes) → turnBy (r % 4) (ofHalves g) ≡ ofHalves x → turnBy (r % 4) (ofHalves h) ≡ ofHalves y →
     Spread (twice (record { a = g .first; b = g .second; c = h .first; d = h .second })) p → PairIn r x y p
@@ -94,20 +100,40 @@ pair-in r x y g h p is-g is-h is-p = each
     each (suc (suc (suc zero))) l = turned-block p 3 (ofHalves h) (packs q p is-p 3 l (ofHalves h) refl) (r % 4) (omega arith) ∙ is-h
     each (suc (suc (suc (suc b)))) l = absurd (omega arith)
 
-pub key-put : (r : ℕ) (x y : Halves) (p : Planes) (k k′ : List ℕ) → r < 11 → length k ≡ 88 → PairIn r x y p → k′ ≡ put k (8 * r) (planesOf p) → KeyPut r x y k k′
-unfolding PairIn
-key-put r x y p k k′ hr l is-p e = record {
-  size = ap length e ∙ put-length k (8 * r) (planesOf p) room ∙ l;
-  here = λ b hb. ap (blockAt (r % 4) b) written ∙ is-p b hb;
-  before =
-      λ n g. keys-are k′ n (keyPlanes k n) (λ i h. ap (λ (l : List ℕ). getD l (8 * n + i) 0) e ∙ put-before k (planesOf p) (8 * r) room (8 * n + i) (omega arith) ∙ key-word k n i h);
-}
-  where
-    room : 8 * r + length (planesOf p) ≤ length k
-    room = omega (arith, eight-words p)
+-- q are the planes as they are written: in round 0, and with hex 63 in the others
+HeldIn : ℕ → Halves → Halves → Planes → Type 0
+HeldIn r x y q = (b : ℕ) → b < 4 → blockAt (r % 4) b q ≡ held r (byPair (ofHalves x) (ofHalves y) b)
 
-    written : keyPlanes k′ r ≡ p
-    written = keys-are k′ r p (λ i h. ap (λ (l : List ℕ). getD l (8 * r + i) 0) e ∙ put-here k (planesOf p) (8 * r) room i (omega (arith, eight-words p)))
+held-first : (r : ℕ) (x y : Halves) (p : Planes) → r ≡ 0 → PairIn r x y p → HeldIn r x y p
+unfolding PairIn HeldIn held
+held-first r x y p e is-p b hb = is-p b hb ∙ ap (λ (n : ℕ). held n (byPair (ofHalves x) (ofHalves y) b)) (sym e)
+
+held-63 : (r : ℕ) (x y : Halves) (p q : Planes) → (r ≡ 0 → ⊥) → PairIn r x y p → Lanewise (λ b. bitXor b 0x63) p q → HeldIn r x y q
+unfolding PairIn HeldIn
+held-63 r x y p q n is-p is-q b hb =
+    block-63 (r % 4) b hb p q is-q ∙ ap (λ (s : Block). s ⊕ all63) (is-p b hb) ∙ sym (held-later r n (byPair (ofHalves x) (ofHalves y) b))
+
+module _ (r : ℕ) (x y : Halves) (k k′ : List ℕ) (hr : r < 11) (l : length k ≡ 88) where
+  key-put : (q : Planes) → HeldIn r x y q → k′ ≡ put k (8 * r) (planesOf q) → KeyPut r x y k k′
+  unfolding HeldIn
+  key-put q is-q e = record {
+    size = ap length e ∙ put-length k (8 * r) (planesOf q) room ∙ l;
+    here = λ b hb. ap (blockAt (r % 4) b) written ∙ is-q b hb;
+    before =
+        λ n g. keys-are k′ n (keyPlanes k n) (λ i h. ap (λ (l : List ℕ). getD l (8 * n + i) 0) e ∙ put-before k (planesOf q) (8 * r) room (8 * n + i) (omega arith) ∙ key-word k n i h);
+  }
+    where
+      room : 8 * r + length (planesOf q) ≤ length k
+      room = omega (arith, eight-words q)
+
+      written : keyPlanes k′ r ≡ q
+      written = keys-are k′ r q (λ i h. ap (λ (l : List ℕ). getD l (8 * r + i) 0) e ∙ put-here k (planesOf q) (8 * r) room i (omega (arith, eight-words q)))
+
+  pub first-put : (p : Planes) → r ≡ 0 → PairIn r x y p → k′ ≡ put k (8 * r) (planesOf p) → KeyPut r x y k k′
+  first-put p z is-p e = key-put p (held-first r x y p z is-p) e
+
+  pub later-put : (p q : Planes) → (r ≡ 0 → ⊥) → PairIn r x y p → Lanewise (λ b. bitXor b 0x63) p q → k′ ≡ put k (8 * r) (planesOf q) → KeyPut r x y k k′
+  later-put p q n is-p is-q e = key-put q (held-63 r x y p q n is-p is-q) e
 
 -- ---- the loop
 
@@ -115,7 +141,7 @@ key-put r x y p k k′ hr l is-p e = record {
 pub record SlicedTo (u v : List ℕ) (r : ℕ) (k : List ℕ) : Type 0 where
   pub within : r ≤ 11
   pub size : length k ≡ 88
-  pub so-far : (n : ℕ) → n < r → (b : ℕ) → b < 4 → blockAt (n % 4) b (keyPlanes k n) ≡ roundKey (byPair u v b) n
+  pub so-far : (n : ℕ) → n < r → (b : ℕ) → b < 4 → blockAt (n % 4) b (keyPlanes k n) ≡ held n (roundKey (byPair u v b) n)
 
 pub sliced-start : {u v k : List ℕ} → length k ≡ 88 → SlicedTo u v 0 k
 sliced-start l = record { within = omega arith; size = l; so-far = λ n h. absurd (omega arith) }
@@ -131,16 +157,18 @@ side n r (suc d) h e = less (omega arith)
 -- x and y are the keys of round r
 pub sliced-turn : {u v k k′ : List ℕ} {r : ℕ} {x y : Halves} → SlicedTo u v r k → r < 11 → ofHalves x ≡ roundKey u r → ofHalves y ≡ roundKey v r → KeyPut r x y k k′ →
     SlicedTo u v (r + 1) k′
-unfolding PairIn
 sliced-turn {u} {v} {k} {k′} {r} {x} {y} inv hr is-x is-y new = record { within = omega arith; size = new .size; so-far = λ n h b hb. each n b hb (side n r (r - n) h refl) }
   where
-    each : (n b : ℕ) → b < 4 → Side n r → blockAt (n % 4) b (keyPlanes k′ n) ≡ roundKey (byPair u v b) n
+    each : (n b : ℕ) → b < 4 → Side n r → blockAt (n % 4) b (keyPlanes k′ n) ≡ held n (roundKey (byPair u v b) n)
     each n b hb (less g) = ap (blockAt (n % 4) b) (new .before n g) ∙ inv .so-far n g b hb
-    each n b hb (same g) = rw g (new .here b hb ∙ by-pair u v (ofHalves x) (ofHalves y) r is-x is-y b)
+    each n b hb (same g) = rw g (new .here b hb ∙ ap (held r) (by-pair u v (ofHalves x) (ofHalves y) r is-x is-y b))
 
 pub sliced-end : {u v k : List ℕ} {r : ℕ} → SlicedTo u v r k → 11 ≤ r → IsSliced (byPair u v) k
-unfolding IsSliced
-sliced-end inv h n hn b hb = inv .so-far n (omega arith) b hb
+unfolding IsSliced held
+sliced-end inv h = record {
+  first = λ b hb. inv .so-far 0 (omega arith) b hb;
+  others = λ n h0 hn b hb. inv .so-far n (omega arith) b hb ∙ held-later n (λ e. omega arith) (roundKey (byPair _ _ b) n);
+}
 
 -- ---- the loop of two keys: x and y are those of round r, and rc the round constant of the next
 
@@ -195,4 +223,7 @@ by-one w (suc (suc b)) = refl
 
 pub sliced-one : (w k : List ℕ) → IsSliced (byPair w w) k → IsSliced (λ b. w) k
 unfolding IsSliced
-sliced-one w k sliced r hr b hb = sliced r hr b hb ∙ ap (λ (v : List ℕ). roundKey v r) (by-one w b)
+sliced-one w k sliced = record {
+  first = λ b hb. sliced .first b hb ∙ ap (λ (v : List ℕ). roundKey v 0) (by-one w b);
+  others = λ n h0 hn b hb. sliced .others n h0 hn b hb ∙ ap (λ (v : List ℕ). roundKey v n ⊕ all63) (by-one w b);
+}

@@ -1,19 +1,23 @@
 -- The rounds on planes, one after the other: each block goes through the rounds of the cipher. Assumes nothing.
-use mathlib.Core.Path.{_≡_, refl, sym, ap, _∙_}
+use mathlib.Core.Path.{_≡_, refl, sym, ap, ap₂, _∙_}
 use mathlib.Core.List.{List}
 use Prim.Native.Nat.{ℕ, zero, suc, _+_, _-_, _%_, _<_, _≤_}
 use native.Mathlib.Omega.{arith}
 use borrow.Author.Tests.{ne-eqb}
-use Rattle.model.specs.Aes.{Block, _⊕_, sBox, subBytes, shiftRows, mixColumns, addRoundKey, aesRound, rounds, cipher, keyExpansion, fixedKey, aes, π}
+use lib.Bits.{bitXor}
+use lib.ListN.{length}
+use Rattle.model.specs.Aes.{Block, _⊕_, sBox, subBytes, shiftRows, mixColumns, roundKey, addRoundKey, aesRound, rounds, cipher, keyExpansion, fixedKey, aes, π}
+use Rattle.model.proofs.Xor.{⊕-assoc, ⊕-self, ⊕-zero}
+use Rattle.model.proofs.XorRules.{xors}
 use Rattle.planes.specs.declared.planes.Planes.{Planes}
 use Rattle.planes.specs.declared.packing.Four.{Four}
 use Rattle.planes.specs.Lanes.{blockAt, Lanewise, Added}
 use Rattle.planes.specs.Mixing.{MixedAt}
 use Rattle.planes.specs.Packing.{Packed, Unpacked}
-use Rattle.planes.specs.Sliced.{keyPlanes, IsSliced, turnBy}
+use Rattle.planes.specs.Sliced.{keyPlanes, all63, SlicedFrom, turnBy}
 use Rattle.planes.specs.Rounds.{roundOf, roundsFrom, cipherFrom}
 use Rattle.planes.specs.Four.{FourFrom, FourIs, PermutesFour}
-use Rattle.planes.proofs.Blocks.{sub-block, add-block, shifts, turned-block, mix-block}
+use Rattle.planes.proofs.Blocks.{sub-block, add-block, shifts, turned-block, mix-block, shift-63, mix-63}
 
 -- ---- one round
 
@@ -25,28 +29,59 @@ is-last : (r n : ℕ) → r < 11 → 10 - r ≡ n → Last r
 is-last r zero h e = yes (omega arith)
 is-last r (suc n) h e = no (λ g. omega arith)
 
+-- hex 63 twice is none
+twice-63 : (s t : Block) → (s ⊕ all63) ⊕ (t ⊕ all63) ≡ s ⊕ t
+twice-63 s t = simp xors
+
+undone : (s : Block) → length s ≡ 16 → (s ⊕ all63) ⊕ all63 ≡ s
+undone s l = ⊕-assoc s all63 all63 ∙ ap (λ (z : Block). s ⊕ z) (⊕-self all63) ∙ ⊕-zero s l
+
+mixed-length : (s : Block) → length (mixColumns s) ≡ 16
+unfolding mixColumns
+mixed-length s = refl
+
+shifted-length : (s : Block) → length (shiftRows s) ≡ 16
+unfolding shiftRows
+shifted-length s = refl
+
+mixed-63 : (k b : ℕ) (q : Planes) (s : Block) → length s ≡ 16 → blockAt k b q ≡ s ⊕ all63 → mixColumns (blockAt k b q) ≡ mixColumns s ⊕ all63
+mixed-63 k b q s l e =
+    let m : Block = mixColumns (blockAt k b q) in
+    let back : m ⊕ all63 ≡ mixColumns s = sym (mix-63 k b q) ∙ ap mixColumns (ap (λ (z : Block). z ⊕ all63) e ∙ undone s l) in
+    sym (undone m (mixed-length (blockAt k b q))) ∙ ap (λ (z : Block). z ⊕ all63) back
+
 -- block b under its schedule
-module _ (k : List ℕ) (ws : ℕ → List ℕ) (sliced : IsSliced ws k) (b : ℕ) (hb : b < 4) where
-  key-added : (r : ℕ) (q x : Planes) → r < 11 → Added q (keyPlanes k r) x → blockAt (r % 4) b x ≡ addRoundKey (ws b) r (blockAt (r % 4) b q)
-  unfolding IsSliced addRoundKey
-  key-added r q x hr e = add-block (r % 4) b hb q (keyPlanes k r) x e ∙ ap (λ (z : Block). blockAt (r % 4) b q ⊕ z) (sliced r hr b hb)
+module _ (k : List ℕ) (f : ℕ) (ws : ℕ → List ℕ) (sliced : SlicedFrom f ws k) (b : ℕ) (hb : b < 4) where
+  first-added : (q x : Planes) → Added q (keyPlanes k 0) x → blockAt 0 b x ≡ addRoundKey (ws b) 0 (blockAt 0 b q)
+  unfolding addRoundKey
+  first-added q x e = add-block 0 b hb q (keyPlanes k 0) x e ∙ ap (λ (z : Block). blockAt 0 b q ⊕ z) (sliced .first b hb)
+
+  -- hex 63 in the key, and that which SubBytes left out
+  key-added : (r : ℕ) (q x : Planes) (s : Block) → f ≤ r → r < 11 → Added q (keyPlanes k r) x → blockAt (r % 4) b q ≡ s ⊕ all63 → blockAt (r % 4) b x ≡ addRoundKey (ws b) r s
+  unfolding addRoundKey
+  key-added r q x s hf hr e is-q =
+      add-block (r % 4) b hb q (keyPlanes k r) x e ∙ ap₂ (λ (y z : Block). y ⊕ z) is-q (sliced .others r hf hr b hb) ∙ twice-63 s (roundKey (ws b) r)
 
   -- SubBytes, with ShiftRows, which it leaves out
-  subbed : (r : ℕ) (q s : Planes) → 0 < r → Lanewise sBox q s → blockAt (r % 4) b s ≡ shiftRows (subBytes (blockAt ((r - 1) % 4) b q))
+  subbed : (r : ℕ) (q s : Planes) → 0 < r → Lanewise (λ b. bitXor (sBox b) 0x63) q s → blockAt (r % 4) b s ≡ shiftRows (subBytes (blockAt ((r - 1) % 4) b q)) ⊕ all63
   subbed r q s h0 is-s =
       let n : ℕ = (r - 1) % 4 in
       let e : r % 4 ≡ (n + 1) % 4 = omega arith in
-      ap (λ (i : ℕ). blockAt i b s) e ∙ shifts n b s (omega arith) ∙ ap shiftRows (sub-block n b hb q s is-s)
+      ap (λ (i : ℕ). blockAt i b s) e ∙ shifts n b s (omega arith) ∙ ap shiftRows (sub-block n b hb q s is-s) ∙ shift-63 (subBytes (blockAt n b q))
 
-  round-is : (r : ℕ) (q s m x : Planes) → 0 < r → r < 11 → Lanewise sBox q s → MixedAt r s m → Added m (keyPlanes k r) x →
+  round-is : (r : ℕ) (q s m x : Planes) → 0 < r → f ≤ r → r < 11 → Lanewise (λ b. bitXor (sBox b) 0x63) q s → MixedAt r s m → Added m (keyPlanes k r) x →
       blockAt (r % 4) b x ≡ roundOf (ws b) r (blockAt ((r - 1) % 4) b q)
   unfolding roundOf aesRound
-  round-is r q s m x h0 hr is-s is-m is-x = key-added r m x hr is-x ∙ go (is-last r (10 - r) hr refl)
+  round-is r q s m x h0 hf hr is-s is-m is-x = go (is-last r (10 - r) hr refl)
     where
-      go : Last r → addRoundKey (ws b) r (blockAt (r % 4) b m) ≡ roundOf (ws b) r (blockAt ((r - 1) % 4) b q)
-      go (yes e) = ap (λ (z : Planes). addRoundKey (ws b) r (blockAt (r % 4) b z)) (is-m .last e) ∙ ap (addRoundKey (ws b) r) (subbed r q s h0 is-s) ∙ rw e refl
+      before : Block
+      before = shiftRows (subBytes (blockAt ((r - 1) % 4) b q))
+
+      go : Last r → blockAt (r % 4) b x ≡ roundOf (ws b) r (blockAt ((r - 1) % 4) b q)
+      go (yes e) = key-added r m x before hf hr is-x (ap (blockAt (r % 4) b) (is-m .last e) ∙ subbed r q s h0 is-s) ∙ rw e refl
       go (no n) =
-          ap (addRoundKey (ws b) r) (mix-block (r % 4) b (omega arith) hb s m (is-m .other n) ∙ ap mixColumns (subbed r q s h0 is-s)) ∙ rw (ne-eqb r 10 n) refl
+          key-added r m x (mixColumns before) hf hr is-x
+          (mix-block (r % 4) b (omega arith) hb s m (is-m .other n) ∙ mixed-63 (r % 4) b s before (shifted-length (subBytes (blockAt ((r - 1) % 4) b q))) (subbed r q s h0 is-s)) ∙ rw (ne-eqb r 10 n) refl
 
 -- ---- the loop: what holds of the planes q before round i, when q₀ were the planes before round r
 
@@ -54,7 +89,7 @@ pub record Through (k : List ℕ) (r : ℕ) (q₀ : Planes) (i : ℕ) (q : Plane
   pub past : 0 < r
   pub since : r ≤ i
   pub within : i ≤ 11
-  pub state : (ws : ℕ → List ℕ) → IsSliced ws k → (b : ℕ) → b < 4 → blockAt ((i - 1) % 4) b q ≡ roundsFrom (ws b) r (i - r) (blockAt ((r - 1) % 4) b q₀)
+  pub state : (ws : ℕ → List ℕ) → SlicedFrom r ws k → (b : ℕ) → b < 4 → blockAt ((i - 1) % 4) b q ≡ roundsFrom (ws b) r (i - r) (blockAt ((r - 1) % 4) b q₀)
 
 pub through-start : {k : List ℕ} {r : ℕ} {q₀ : Planes} → 0 < r → r < 12 → Through k r q₀ r q₀
 unfolding roundsFrom
@@ -67,7 +102,7 @@ through-start {k} {r} {q₀} h0 h =
       state = λ ws sliced b hb. ap (λ (n : ℕ). roundsFrom (ws b) r n (blockAt ((r - 1) % 4) b q₀)) e;
     }
 
-pub through-turn : {k : List ℕ} {r i : ℕ} {q₀ q s m x : Planes} → Through k r q₀ i q → i < 11 → Lanewise sBox q s → MixedAt i s m → Added m (keyPlanes k i) x →
+pub through-turn : {k : List ℕ} {r i : ℕ} {q₀ q s m x : Planes} → Through k r q₀ i q → i < 11 → Lanewise (λ b. bitXor (sBox b) 0x63) q s → MixedAt i s m → Added m (keyPlanes k i) x →
     Through k r q₀ (i + 1) x
 unfolding roundsFrom
 through-turn {k} {r} {i} {q₀} {q} {s} {m} {x} inv h is-s is-m is-x =
@@ -80,7 +115,7 @@ through-turn {k} {r} {i} {q₀} {q} {s} {m} {x} inv h is-s is-m is-x =
       within = omega arith;
       state =
           λ ws sliced b hb.
-          ap (λ (n : ℕ). blockAt (n % 4) b x) (sym now) ∙ round-is k ws sliced b hb i q s m x (omega (arith, inv .past, inv .since)) h is-s is-m is-x
+          ap (λ (n : ℕ). blockAt (n % 4) b x) (sym now) ∙ round-is k r ws sliced b hb i q s m x (omega (arith, inv .past, inv .since)) (inv .since) h is-s is-m is-x
           ∙ ap (roundOf (ws b) i) (inv .state ws sliced b hb) ∙ ap (λ (n : ℕ). roundOf (ws b) n (roundsFrom (ws b) r (i - r) (blockAt ((r - 1) % 4) b q₀))) this
           ∙ ap (λ (n : ℕ). roundsFrom (ws b) r n (blockAt ((r - 1) % 4) b q₀)) more;
     }
@@ -88,7 +123,7 @@ through-turn {k} {r} {i} {q₀} {q} {s} {m} {x} inv h is-s is-m is-x =
 -- ---- four blocks
 
 pub ciphers : (k : List ℕ) (r : ℕ) {i : ℕ} {x y : Four} (p : Planes) {q₀ q : Planes} → Packed x p → Added p (keyPlanes k 0) q₀ → Through k r q₀ i q → 11 ≤ i → Unpacked q y →
-    (ws : ℕ → List ℕ) → IsSliced ws k → FourFrom r ws x y
+    (ws : ℕ → List ℕ) → SlicedFrom r ws k → FourFrom r ws x y
 unfolding cipherFrom
 ciphers k r {i} p {q₀} {q} is-p is-q₀ inv h is-y ws sliced =
     let e : 11 ≡ i = omega (arith, inv .within) in
@@ -96,7 +131,7 @@ ciphers k r {i} p {q₀} {q} is-p is-q₀ inv h is-y ws sliced =
     λ b hb s f.
     ap (λ (n : ℕ). blockAt ((n - 1) % 4) b q) e ∙ inv .state ws sliced b hb ∙ ap (λ (n : ℕ). roundsFrom (ws b) r (n - r) (blockAt ((r - 1) % 4) b q₀)) (sym e)
     ∙ ap (roundsFrom (ws b) r (11 - r))
-    (turned-block q₀ b (addRoundKey (ws b) 0 s) (key-added k ws sliced b hb 0 p q₀ (omega arith) is-q₀ ∙ ap (addRoundKey (ws b) 0) f) ((r - 1) % 4) (omega arith)) in
+    (turned-block q₀ b (addRoundKey (ws b) 0 s) (first-added k r ws sliced b hb p q₀ is-q₀ ∙ ap (addRoundKey (ws b) 0) f) ((r - 1) % 4) (omega arith)) in
     record {
       is-a = is-y .is-a ∙ each 0 (omega arith) _ (is-p .is-a);
       is-b = is-y .is-b ∙ each 1 (omega arith) _ (is-p .is-b);

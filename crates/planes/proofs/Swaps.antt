@@ -1,10 +1,12 @@
 -- The exchange of bits between words. Assumes nothing.
 use mathlib.Core.Path.{_≡_, refl, sym, ap, ap₂, _∙_}
+use mathlib.Core.Bool.{cond}
 use mathlib.Core.List.{List, [], _∷_}
 use Prim.Native.Nat.{ℕ, zero, suc, _+_, _*_, _-_, _/_, _%_, _^_, _<_}
 use native.Mathlib.Omega.{arith}
 use native.Mathlib.Nat.{mod-lt, zero-lt-suc, add-div-left, div-eq-of-lt}
-use lib.Bits.{bitXor, bitAnd, xor-comm, xor-zero-r, xor-lt, and-zero-r}
+use lib.Dec.{eqb}
+use lib.Bits.{bitXor, bitAnd, bitOr, xor-comm, xor-zero-r, xor-lt, and-zero-r, or-zero-l, or-zero-r}
 use lib.ListN.{getD}
 use Rattle.model.specs.Bytes.{tabulate}
 use Rattle.model.specs.Aes.{bit}
@@ -14,8 +16,8 @@ use Rattle.planes.specs.declared.planes.Planes.{Planes}
 use Rattle.planes.specs.declared.exchange.Two.{Two}
 use Rattle.planes.specs.declared.exchange.Pairs.{Pairs}
 use Rattle.planes.specs.Lanes.{planesOf}
-use Rattle.planes.specs.Exchange.{digit, Alternates, Swapped, SwappedPairs, From, fromWord, fromBit, Exchanged, Interleaved, Parted, inWord, inByte, outLane, Spread, twice, Gathered}
-use Rattle.planes.proofs.Lanes.{at-each, at-both, Agree, bit-xor, bit-and, bit-lt, and-one}
+use Rattle.planes.specs.Exchange.{digit, Alternates, Swapped, SwappedPairs, SwappedTurned, From, fromWord, fromBit, Exchanged, ExchangedTurned, Interleaved, Parted, inWord, inByte, outLane, Spread, twice, Gathered}
+use Rattle.planes.proofs.Lanes.{at-each, at-both, Agree, bit-xor, bit-and, bit-or, bit-lt, and-one}
 use Rattle.planes.proofs.Shifts.{Cut, before, after, cut, bit-right, bit-left-after, bit-left-before, bit-within}
 
 pub xor-twice : (a b : ℕ) → bitXor b (bitXor a b) ≡ a
@@ -182,12 +184,12 @@ pub by-32 : Alternates 32 0x00000000FFFFFFFF
 unfolding bit
 by-32 = record { some = omega arith; within = omega arith; is-mask = refl }
 
-pub spreads : (q a b c d i e j r : Planes) → Exchanged 8 q a → Exchanged 16 a b → Exchanged 32 b c → Exchanged 4 c d → Interleaved d i → Exchanged 2 i e → Interleaved e j →
-    Exchanged 1 j r → Spread q r
-spreads q a b c d i e j r s8 s16 s32 s4 di s2 ej s1 =
+pub spreads : (q i a j b k c d e f r : Planes) → Interleaved q i → Exchanged 2 i a → Interleaved a j → Exchanged 1 j b → Interleaved b k → Exchanged 8 k c → Exchanged 16 c d →
+    Exchanged 32 d e → Exchanged 4 e f → Parted f r → Spread q r
+spreads q i a j b k c d e f r qi s2 aj s1 bk s8 s16 s32 s4 fr =
     same-places _ _ (λ w l. inWord l) (λ w l. 8 * inByte l + w) refl refl q r
-    (then _ _ _ _ refl q a r s8 (then _ _ _ _ refl a b r s16 (then _ _ _ _ refl b c r s32 (then _ _ _ _ refl c d r s4 (then _ _ _ _ refl d i r di (then _ _ _ _ refl i e r s2
-    (then _ _ _ _ refl e j r ej s1)))))))
+    (then _ _ _ _ refl q i r qi (then _ _ _ _ refl i a r s2 (then _ _ _ _ refl a j r aj (then _ _ _ _ refl j b r s1 (then _ _ _ _ refl b k r bk (then _ _ _ _ refl k c r s8
+    (then _ _ _ _ refl c d r s16 (then _ _ _ _ refl d e r s32 (then _ _ _ _ refl e f r s4 fr)))))))))
 
 -- the words a, b, c, d of two pairs, and the same again; the words a, a, b, b, c, c, d, d
 again : Pairs → Planes
@@ -222,12 +224,76 @@ pub spreads-pairs : (x a b c d e : Pairs) (r : Planes) → SwappedPairs 8 x a �
     Exchanged 1 (record { p0 = e .a; p1 = e .a; p2 = e .b; p3 = e .b; p4 = e .c; p5 = e .c; p6 = e .d; p7 = e .d }) r → Spread (twice x) r
 unfolding each
 spreads-pairs x a b c d e r s8 s16 s32 s4 s2 s1 =
-    spreads (twice x) (twice a) (twice b) (twice c) (twice d) (again (crossed d)) (again e) (each e) r (pairs-twice 8 x a s8) (pairs-twice 16 a b s16) (pairs-twice 32 b c s32)
-    (pairs-twice 4 c d s4) (twice-again d) (pairs-again 2 (crossed d) e s2) (again-each e) s1
+    same-places _ _ (λ w l. inWord l) (λ w l. 8 * inByte l + w) refl refl (twice x) r
+    (then _ _ _ _ refl (twice x) (twice a) r (pairs-twice 8 x a s8) (then _ _ _ _ refl (twice a) (twice b) r (pairs-twice 16 a b s16)
+    (then _ _ _ _ refl (twice b) (twice c) r (pairs-twice 32 b c s32) (then _ _ _ _ refl (twice c) (twice d) r (pairs-twice 4 c d s4)
+    (then _ _ _ _ refl (twice d) (again (crossed d)) r (twice-again d) (then _ _ _ _ refl (again (crossed d)) (again e) r (pairs-again 2 (crossed d) e s2)
+    (then _ _ _ _ refl (again e) (each e) r (again-each e) s1)))))))
 
-pub gathers : (q i a j b c d e r : Planes) → Exchanged 1 q i → Parted i a → Exchanged 2 a j → Parted j b → Exchanged 4 b c → Exchanged 32 c d → Exchanged 16 d e → Exchanged 8 e r →
-    Gathered q r
-gathers q i a j b c d e r s1 ia s2 jb s4 s32 s16 s8 =
+-- ---- back, with the odd bytes turned
+
+odd-bits : (l : ℕ) → l < 64 → bit 0xFF00FF00FF00FF00 l ≡ digit 8 l
+unfolding bit
+odd-bits = at-each 64 (bit 0xFF00FF00FF00FF00) (digit 8) refl
+
+even-bits : (l : ℕ) → l < 64 → bit 0x00FF00FF00FF00FF l ≡ 1 - digit 8 l
+even-bits = at-each 64 (bit 0x00FF00FF00FF00FF) (λ l. 1 - digit 8 l) (by-8 .is-mask)
+
+-- the even bytes of x and the odd bytes of y
+bytes-of-both : (x y l : ℕ) → l < 64 →
+    bit (bitOr (bitAnd x 0x00FF00FF00FF00FF) (bitAnd y 0xFF00FF00FF00FF00)) l ≡ bitOr (bitAnd (bit x l) (1 - digit 8 l)) (bitAnd (bit y l) (digit 8 l))
+bytes-of-both x y l h =
+    bit-or (bitAnd x 0x00FF00FF00FF00FF) (bitAnd y 0xFF00FF00FF00FF00) l
+    ∙ ap₂ bitOr (bit-and x 0x00FF00FF00FF00FF l ∙ ap (bitAnd (bit x l)) (even-bits l h)) (bit-and y 0xFF00FF00FF00FF00 l ∙ ap (bitAnd (bit y l)) (odd-bits l h))
+
+module _ (a b l : ℕ) (h : l < 64) where
+  turned-low : (d : ℕ) → d < 2 → bitOr (bitAnd (bit a l) (1 - d)) (bitAnd (bit b l) d) ≡ bit (getD (a ∷ b ∷ []) d 0) l
+  turned-low zero hd = ap₂ bitOr (and-one (bit a l) (bit-lt a l)) (and-zero-r (bit b l)) ∙ or-zero-r (bit a l)
+  turned-low (suc zero) hd = ap₂ bitOr (and-zero-r (bit a l)) (and-one (bit b l) (bit-lt b l)) ∙ or-zero-l (bit b l)
+  turned-low (suc (suc d)) hd = absurd (omega arith)
+
+  turned-high : (d : ℕ) → d < 2 → Cut 8 l → digit 8 l ≡ d →
+      bitOr (bitAnd (bit (a / 2 ^ 8) l) (1 - d)) (bitAnd (bit (b * 2 ^ 8 % 2 ^ 64) l) d) ≡ bit (getD (a ∷ b ∷ []) d 0) (l + 8 - d * 16)
+  turned-high zero hd c e =
+      let x : ℕ = a / 2 ^ 8 in
+      let y : ℕ = b * 2 ^ 8 % 2 ^ 64 in
+      let p : 8 + l ≡ l + 8 - 0 * 16 = omega arith in
+      ap₂ bitOr (and-one (bit x l) (bit-lt x l)) (and-zero-r (bit y l)) ∙ or-zero-r (bit x l) ∙ bit-right a 8 l ∙ ap (bit a) p
+  turned-high (suc zero) hd (after k f) e =
+      let x : ℕ = a / 2 ^ 8 in
+      let y : ℕ = b * 2 ^ 8 % 2 ^ 64 in
+      let p : k ≡ l + 8 - 1 * 16 = omega arith in
+      ap₂ bitOr (and-zero-r (bit x l)) (and-one (bit y l) (bit-lt y l)) ∙ or-zero-l (bit y l) ∙ bit-within (b * 2 ^ 8) l h ∙ ap (bit (b * 2 ^ 8)) f ∙ bit-left-after b 8 k ∙ ap (bit b) p
+  turned-high (suc zero) hd (before k f) e = absurd (omega arith)
+  turned-high (suc (suc d)) hd c e = absurd (omega arith)
+
+pub swaps-turned : (a b : ℕ) (r : Two) → r .u ≡ bitOr (bitAnd a 0x00FF00FF00FF00FF) (bitAnd b 0xFF00FF00FF00FF00) →
+    r .v ≡ bitOr (bitAnd (a / 2 ^ 8) 0x00FF00FF00FF00FF) (bitAnd (b * 2 ^ 8 % 2 ^ 64) 0xFF00FF00FF00FF00) → SwappedTurned a b r
+swaps-turned a b r eu ev =
+    record {
+      low = λ l h. ap (λ (x : ℕ). bit x l) eu ∙ bytes-of-both a b l h ∙ turned-low a b l h (digit 8 l) (digit-lt 8 l);
+      high = λ l h. ap (λ (x : ℕ). bit x l) ev ∙ bytes-of-both (a / 2 ^ 8) (b * 2 ^ 8 % 2 ^ 64) l h ∙ turned-high a b l h (digit 8 l) (digit-lt 8 l) (cut 8 l) refl;
+    }
+
+module _ (q : Planes) (i : ℕ) (p : Two) (is-p : SwappedTurned (getD (planesOf q) i 0) (getD (planesOf q) (i + 1) 0) p) where
+  turned-first : (l : ℕ) → l < 64 → bit (p .u) l ≡ bit (getD (planesOf q) (i + digit 8 l) 0) l
+  turned-first l h = is-p .low l h ∙ ap (λ (x : ℕ). bit x l) (pair (planesOf q) i (digit 8 l) (digit-lt 8 l))
+
+  turned-second : (l : ℕ) → l < 64 → bit (p .v) l ≡ bit (getD (planesOf q) (i + digit 8 l) 0) (l + 8 - digit 8 l * 16)
+  turned-second l h = is-p .high l h ∙ ap (λ (x : ℕ). bit x (l + 8 - digit 8 l * 16)) (pair (planesOf q) i (digit 8 l) (digit-lt 8 l))
+
+pub exchanges-turned : (q r : Planes) (a b c d : Two) → SwappedTurned (q .p0) (q .p1) a → SwappedTurned (q .p2) (q .p3) b → SwappedTurned (q .p4) (q .p5) c →
+    SwappedTurned (q .p6) (q .p7) d → planesOf r ≡ a .u ∷ a .v ∷ b .u ∷ b .v ∷ c .u ∷ c .v ∷ d .u ∷ d .v ∷ [] → ExchangedTurned q r
+unfolding From planesOf
+exchanges-turned q r a b c d ha hb hc hd e w l hw hl =
+    ap (λ (v : List ℕ). bit (getD v w 0) l) e
+    ∙ cases8
+    (λ w. (l : ℕ) → l < 64 → bit (getD (a .u ∷ a .v ∷ b .u ∷ b .v ∷ c .u ∷ c .v ∷ d .u ∷ d .v ∷ []) w 0) l ≡ bit (getD (planesOf q) (fromWord 8 w l) 0) (cond (eqb (w % 2) 0) l (l + 8 - digit 8 l * 16)))
+    (turned-first q 0 a ha) (turned-second q 0 a ha) (turned-first q 2 b hb) (turned-second q 2 b hb) (turned-first q 4 c hc) (turned-second q 4 c hc) (turned-first q 6 d hd) (turned-second q 6 d hd) w hw l hl
+
+pub gathers : (q i a b c d j e k f r : Planes) → Interleaved q i → Exchanged 4 i a → Exchanged 32 a b → Exchanged 16 b c → ExchangedTurned c d → Parted d j → Exchanged 1 j e →
+    Parted e k → Exchanged 2 k f → Parted f r → Gathered q r
+gathers q i a b c d j e k f r qi s4 s32 s16 s8 dj s1 ek s2 fr =
     same-places _ _ (λ w l. l % 8) (λ w l. outLane w (l / 8)) refl refl q r
-    (then _ _ _ _ refl q i r s1 (then _ _ _ _ refl i a r ia (then _ _ _ _ refl a j r s2 (then _ _ _ _ refl j b r jb (then _ _ _ _ refl b c r s4 (then _ _ _ _ refl c d r s32
-    (then _ _ _ _ refl d e r s16 s8)))))))
+    (then _ _ _ _ refl q i r qi (then _ _ _ _ refl i a r s4 (then _ _ _ _ refl a b r s32 (then _ _ _ _ refl b c r s16 (then _ _ _ _ refl c d r s8 (then _ _ _ _ refl d j r dj
+    (then _ _ _ _ refl j e r s1 (then _ _ _ _ refl e k r ek (then _ _ _ _ refl k f r s2 fr)))))))))

@@ -31,10 +31,6 @@ OfBytes mask = tabulate 8 (byteOf mask) ≡ tabulate 8 (λ j. cond (eqb (byteOf 
 unfoldable pub rowsFrom : ℕ → List ℕ → List ℕ → List ℕ
 rowsFrom mask s t = tabulate 8 (λ j. getD (cond (eqb (byteOf mask j) 0) s t) j 0)
 
--- the even bytes of x and the odd bytes of y: each half has rows 0 to 3 of two columns
-unfoldable pub oddFrom : ℕ → ℕ → List ℕ
-oddFrom x y = rowsFrom 0xFF00FF00FF00FF00 (bytesOf8 x) (bytesOf8 y)
-
 -- q has these four blocks, before the first round
 pub record Packed (x : Four) (q : Planes) : Type 0 where
   pub is-a : blockAt 0 0 q ≡ x .a .bytes

@@ -5,7 +5,7 @@ use crate::packing::unpack;
 ghost use mathlib.Core.List.{List};
 ghost use Prim.Native.Nat.{ℕ, _<_};
 ghost use Rattle.model.specs.Aes.{keyExpansion, fixedKey};
-ghost use Rattle.planes.specs.Sliced.{IsSliced};
+ghost use Rattle.planes.specs.Sliced.{SlicedFrom, IsSliced};
 ghost use Rattle.planes.specs.Four.{FourFrom, FourIs, PermutesFour};
 
 // Four blocks through the first AddRoundKey and rounds r to 10, under the schedules that k has for them, whichever these are. A round
@@ -13,7 +13,7 @@ ghost use Rattle.planes.specs.Four.{FourFrom, FourIs, PermutesFour};
 pub fn cipher_from(k: &[u64; 88], x: Four, r: usize) -> Four
     requires { ⌜ 0 < r ⌝ }
     requires { ⌜ r < 12 ⌝ }
-    ensures { λ y. ⌜ ((ws : ℕ → List ℕ) → IsSliced ws (now (k .entry)) → FourFrom r ws x y) ⌝ }
+    ensures { λ y. ⌜ ((ws : ℕ → List ℕ) → SlicedFrom r ws (now (k .entry)) → FourFrom r ws x y) ⌝ }
 {
     let mut s = pack(x).add_round_key(k, 0);
     for i in r..11 {

@@ -1,6 +1,6 @@
 // Eight words of bytes become planes, and back, by exchanges of bits between two words. On the way the words are held as planes are.
 use crate::planes::Planes;
-ghost use Rattle.planes.specs.Exchange.{Alternates, Swapped, Exchanged, SwappedPairs, Interleaved, Parted, Spread, twice, Gathered};
+ghost use Rattle.planes.specs.Exchange.{Alternates, Swapped, Exchanged, SwappedPairs, SwappedTurned, ExchangedTurned, Interleaved, Parted, Spread, twice, Gathered};
 
 // Two words.
 struct Two {
@@ -74,16 +74,17 @@ fn part(x: Planes) -> Planes
     }
 }
 
-// Words to planes: one exchange for each of the six digits of a bit's number.
+// Words to planes: one exchange for each of the six digits of a bit's number. The first is not by whole bytes, and so the compiler loads whole
+// words of a block.
 pub fn spread(x: Planes) -> Planes
     ensures { λ r. ⌜ Spread x r ⌝ }
 {
-    let a = exchange(x, 8, 0x00FF00FF00FF00FF);
-    let b = exchange(a, 16, 0x0000FFFF0000FFFF);
-    let c = exchange(b, 32, 0x00000000FFFFFFFF);
-    let d = exchange(c, 4, 0x0F0F0F0F0F0F0F0F);
-    let e = exchange(interleave(d), 2, 0x3333333333333333);
-    exchange(interleave(e), 1, 0x5555555555555555)
+    let a = exchange(interleave(x), 2, 0x3333333333333333);
+    let b = exchange(interleave(a), 1, 0x5555555555555555);
+    let c = exchange(interleave(b), 8, 0x00FF00FF00FF00FF);
+    let d = exchange(c, 16, 0x0000FFFF0000FFFF);
+    let e = exchange(d, 32, 0x00000000FFFFFFFF);
+    part(exchange(e, 4, 0x0F0F0F0F0F0F0F0F))
 }
 
 // Two pairs of words.
@@ -140,14 +141,45 @@ pub fn spread_pairs(x: Pairs) -> Planes
     )
 }
 
-// Planes to words: `spread` backwards.
+// The exchange of bits 8 apart, after which the odd bytes of both words are exchanged.
+fn swap_turned(a: u64, b: u64) -> Two
+    ensures { λ r. ⌜ SwappedTurned a b r ⌝ }
+{
+    Two {
+        u: (a & 0x00FF00FF00FF00FF) | (b & 0xFF00FF00FF00FF00),
+        v: ((a >> 8) & 0x00FF00FF00FF00FF) | ((b << 8) & 0xFF00FF00FF00FF00),
+    }
+}
+
+// The same of each word with an even number and the next.
+fn exchange_turned(x: Planes) -> Planes
+    ensures { λ r. ⌜ ExchangedTurned x r ⌝ }
+{
+    let a = swap_turned(x.p0, x.p1);
+    let b = swap_turned(x.p2, x.p3);
+    let c = swap_turned(x.p4, x.p5);
+    let d = swap_turned(x.p6, x.p7);
+    Planes {
+        p0: a.u,
+        p1: a.v,
+        p2: b.u,
+        p3: b.v,
+        p4: c.u,
+        p5: c.v,
+        p6: d.u,
+        p7: d.v,
+    }
+}
+
+// Planes after the last round to words: `spread` backwards. Ten times ShiftRows was left out, which is twice, and turns rows 1 and 3 by two
+// columns: these are the odd bytes of a block's two words. The last exchange is not by whole bytes, and so the compiler stores whole words.
 pub fn gather(x: Planes) -> Planes
     ensures { λ r. ⌜ Gathered x r ⌝ }
 {
-    let a = part(exchange(x, 1, 0x5555555555555555));
-    let b = part(exchange(a, 2, 0x3333333333333333));
-    let c = exchange(b, 4, 0x0F0F0F0F0F0F0F0F);
-    let d = exchange(c, 32, 0x00000000FFFFFFFF);
-    let e = exchange(d, 16, 0x0000FFFF0000FFFF);
-    exchange(e, 8, 0x00FF00FF00FF00FF)
+    let a = exchange(interleave(x), 4, 0x0F0F0F0F0F0F0F0F);
+    let b = exchange(a, 32, 0x00000000FFFFFFFF);
+    let c = exchange(b, 16, 0x0000FFFF0000FFFF);
+    let d = exchange_turned(c);
+    let e = exchange(part(d), 1, 0x5555555555555555);
+    part(exchange(part(e), 2, 0x3333333333333333))
 }

@@ -5,7 +5,7 @@ use crate::planes::Planes;
 use block::Block;
 ghost use mathlib.Core.Path.{_≡_};
 ghost use mathlib.Core.List.{[], _∷_, _++_};
-ghost use Rattle.planes.specs.Packing.{bytesOf8, OfBytes, rowsFrom, oddFrom, Packed, Unpacked};
+ghost use Rattle.planes.specs.Packing.{bytesOf8, Packed, Unpacked};
 
 // Four blocks.
 pub struct Four {
@@ -62,25 +62,12 @@ fn halved(x: Block) -> Halves
     }
 }
 
-// Two words with the bytes of some rows exchanged, for which the mask has bytes 255. Of a block's halves these rows are turned by two columns.
-pub fn swap_rows(x: u64, y: u64, mask: u64) -> Halves
-    requires { ⌜ OfBytes mask ⌝ }
-    ensures { λ r. ⌜ (bytesOf8 (r .first) ≡ rowsFrom mask (bytesOf8 x) (bytesOf8 y)) × (bytesOf8 (r .second) ≡ rowsFrom mask (bytesOf8 y) (bytesOf8 x)) ⌝ }
+// The block of two halves.
+fn whole(x: u64, y: u64) -> Block
+    ensures { λ r. ⌜ r .bytes ≡ bytesOf8 x ++ bytesOf8 y ⌝ }
 {
-    let t = (x ^ y) & mask;
-    Halves {
-        first: x ^ t,
-        second: y ^ t,
-    }
-}
-
-// The block of two halves after the last round: ten times ShiftRows was left out, which is twice, and turns rows 1 and 3 by two columns.
-fn turned_block(x: u64, y: u64) -> Block
-    ensures { λ r. ⌜ r .bytes ≡ oddFrom x y ++ oddFrom y x ⌝ }
-{
-    let p = swap_rows(x, y, 0xFF00FF00FF00FF00);
-    let s = bytes(p.first);
-    let t = bytes(p.second);
+    let s = bytes(x);
+    let t = bytes(y);
     Block {
         bytes: [
             s[0],
@@ -128,9 +115,9 @@ pub fn unpack(x: Planes) -> Four
     ensures { λ r. ⌜ Unpacked x r ⌝ }
 {
     let w = gather(x);
-    let a = turned_block(w.p0, w.p1);
-    let b = turned_block(w.p2, w.p3);
-    let c = turned_block(w.p4, w.p5);
-    let d = turned_block(w.p6, w.p7);
+    let a = whole(w.p0, w.p1);
+    let b = whole(w.p2, w.p3);
+    let c = whole(w.p4, w.p5);
+    let d = whole(w.p6, w.p7);
     Four { a, b, c, d }
 }

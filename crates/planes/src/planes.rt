@@ -3,9 +3,9 @@
 // MixColumns and the round keys allow for; after four rounds it stands as before.
 use crate::rotations::rotate;
 use crate::rotations::rotate_either;
-use crate::sbox::add_63;
 use crate::sbox::sub_gates;
 ghost use Prim.Native.Nat.{_<_};
+ghost use lib.Bits.{bitXor};
 ghost use Rattle.model.specs.Aes.{sBox};
 ghost use Rattle.planes.specs.Lanes.{Lanewise, Added};
 ghost use Rattle.planes.specs.Rotations.{around, either};
@@ -58,11 +58,11 @@ impl Planes {
         }
     }
 
-    // SubBytes, §5.1.1: each byte through the S-box.
+    // SubBytes, §5.1.1, each byte through the S-box, but for hex 63: the round's key has it.
     pub fn sub_bytes(self) -> Planes
-        ensures { λ r. ⌜ Lanewise sBox self r ⌝ }
+        ensures { λ r. ⌜ Lanewise (λ b. bitXor (sBox b) 0x63) self r ⌝ }
     {
-        add_63(sub_gates(self))
+        sub_gates(self)
     }
 
     // Columns mixed: `below` has in each lane the next row's byte, and the row after the next stands in the same column.

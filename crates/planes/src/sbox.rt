@@ -6,7 +6,7 @@ ghost use Rattle.planes.specs.Circuit.{subCircuit};
 ghost use Rattle.planes.specs.Lanes.{planesOf, Lanewise};
 
 // The 115 gates of J. Boyar and R. Peralta ("A new combinational logic minimization technique with applications to cryptology", 2010),
-// under their names; u0 and s0 are the highest bits of a byte. Hex 63 is left out: they add it by four negations, which stand below.
+// under their names; u0 and s0 are the highest bits of a byte. Hex 63 is left out, which they add by four negations: the round keys have it.
 pub fn sub_gates(x: Planes) -> Planes
     ensures { λ r. ⌜ planesOf r ≡ subCircuit (planesOf x) ⌝ }
 {
@@ -145,7 +145,7 @@ pub fn sub_gates(x: Planes) -> Planes
     }
 }
 
-// Hex 63 exclusive-ored into every byte: bits 0, 1, 5 and 6 are negated.
+// Hex 63 exclusive-ored into every byte, for the round keys: bits 0, 1, 5 and 6 are negated.
 pub fn add_63(x: Planes) -> Planes
     ensures { λ r. ⌜ Lanewise (λ b. bitXor b 0x63) x r ⌝ }
 {

@@ -15,8 +15,8 @@ const NK: usize = 4;
 
 const NR: usize = 10;
 
-// SubWord, by the last round alone, which is SubBytes and ShiftRows, with keys of 0. The word is every column of a block: ShiftRows does not
-// change that.
+// SubWord, by the last round alone, which is SubBytes and ShiftRows, with keys of 0, of which that of round 10 has hex 63. The word is every
+// column of a block: ShiftRows does not change that.
 pub fn sub_word(x: [u8; 4]) -> [u8; 4]
     ensures { λ r. ⌜ r ≡ subWord x ⌝ }
 {
@@ -40,7 +40,11 @@ pub fn sub_word(x: [u8; 4]) -> [u8; 4]
             x[3],
         ],
     };
-    let none = [0u64; 88];
+    let mut none = [0u64; 88];
+    none[80] = 0xFFFFFFFFFFFFFFFF;
+    none[81] = 0xFFFFFFFFFFFFFFFF;
+    none[85] = 0xFFFFFFFFFFFFFFFF;
+    none[86] = 0xFFFFFFFFFFFFFFFF;
     let y = cipher_from(
         &none,
         Four {

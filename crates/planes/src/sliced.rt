@@ -1,9 +1,11 @@
-// A schedule in planes: words 8r to 8r + 7 are the planes of the four blocks' keys of round r.
+// A schedule in planes: words 8r to 8r + 7 are the planes of the four blocks' keys of round r. From round 1 on they have hex 63 added to every
+// byte, for SubBytes (§5.1.1), which leaves it out: MixColumns, {02} + {03} + {01} + {01} = {01} times each, does not change it.
 use crate::exchange::Pairs;
 use crate::exchange::spread_pairs;
 use crate::expansion::next_key;
 use crate::packing::Halves;
 use crate::planes::Planes;
+use crate::sbox::add_63;
 use crate::turned::halves_of;
 use crate::turned::turned;
 use aes::Words;
@@ -48,13 +50,18 @@ fn put_planes(k: &mut [u64; 88], r: usize, x: Planes)
     k[at + 7] = x.p7;
 }
 
-// A round's key written.
+// A round's key written, with hex 63 from round 1 on.
 fn put_key(k: &mut [u64; 88], r: usize, x: Halves, y: Halves)
     requires { ⌜ r < 11 ⌝ }
     requires { ⌜ length (now k) ≡ 88 ⌝ }
     ensures { λ _. ⌜ KeyPut r x y (now (k .entry)) (now (k .exit)) ⌝ }
 {
-    put_planes(k, r, key_planes(x, y, r));
+    let p = key_planes(x, y, r);
+    if r == 0 {
+        put_planes(k, r, p);
+    } else {
+        put_planes(k, r, add_63(p));
+    }
 }
 
 // Two schedules in planes: the first for blocks a and b, the second for c and d.

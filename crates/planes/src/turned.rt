@@ -1,7 +1,6 @@
 // A round's key turned back: of the state that it is added to, ShiftRows (§5.1.2) was left out once for each round, so that it is undone as
 // often in the key. Four times are none.
 use crate::packing::Halves;
-use crate::packing::swap_rows;
 use aes::Words;
 ghost use mathlib.Core.Path.{_≡_};
 ghost use mathlib.Core.List.{_++_};
@@ -9,7 +8,7 @@ ghost use Prim.Native.Nat.{_%_};
 ghost use lib.ListN.{take, drop};
 ghost use Rattle.model.specs.Aes.{shiftRows};
 ghost use Rattle.aes.specs.Tables.{wordOf, stateOf};
-ghost use Rattle.planes.specs.Packing.{bytesOf8, ofHalves};
+ghost use Rattle.planes.specs.Packing.{bytesOf8, ofHalves, OfBytes, rowsFrom};
 ghost use Rattle.planes.specs.Sliced.{turnBy};
 
 // Two columns as half a block.
@@ -34,6 +33,18 @@ fn between(x: u64, y: u64) -> u64
     ensures { λ r. ⌜ bytesOf8 r ≡ drop 4 (bytesOf8 x) ++ take 4 (bytesOf8 y) ⌝ }
 {
     joined((x >> 32) as u32, (y % 0x100000000) as u32)
+}
+
+// Two words with the bytes of some rows exchanged, for which the mask has bytes 255. Of a block's halves these rows are turned by two columns.
+fn swap_rows(x: u64, y: u64, mask: u64) -> Halves
+    requires { ⌜ OfBytes mask ⌝ }
+    ensures { λ r. ⌜ (bytesOf8 (r .first) ≡ rowsFrom mask (bytesOf8 x) (bytesOf8 y)) × (bytesOf8 (r .second) ≡ rowsFrom mask (bytesOf8 y) (bytesOf8 x)) ⌝ }
+{
+    let t = (x ^ y) & mask;
+    Halves {
+        first: x ^ t,
+        second: y ^ t,
+    }
 }
 
 // Turned back once, row i by i columns: rows 1 and 3 are taken from the column before, then rows 2 and 3 from two columns on.

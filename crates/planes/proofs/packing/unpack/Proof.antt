@@ -11,10 +11,10 @@ unfolding planesOf
 returns c =
     let g = c .before .before .before .before .gather .ensures in
     record {
-      is-a = c .before .before .before .turned-block .ensures ∙ unpacks _ _ g 0 (omega arith);
-      is-b = c .before .before .turned-block2 .ensures ∙ unpacks _ _ g 1 (omega arith);
-      is-c = c .before .turned-block3 .ensures ∙ unpacks _ _ g 2 (omega arith);
-      is-d = c .turned-block4 .ensures ∙ unpacks _ _ g 3 (omega arith);
+      is-a = c .before .before .before .whole .ensures ∙ unpacks _ _ g 0 (omega arith);
+      is-b = c .before .before .whole2 .ensures ∙ unpacks _ _ g 1 (omega arith);
+      is-c = c .before .whole3 .ensures ∙ unpacks _ _ g 2 (omega arith);
+      is-d = c .whole4 .ensures ∙ unpacks _ _ g 3 (omega arith);
     }
 
 pub unpack-spec : {M : Type 1} → statement M

@@ -4,7 +4,7 @@ use Rattle.planes.proofs.planes.Planes.sub_bytes.Statement.{statement}
 use Rattle.planes.proofs.planes.Planes.sub_bytes.Tie as tie
 
 returns : tie.Need-returns
-returns c = substitutes _ _ _ (c .before .sub-gates .ensures) (c .add-63 .ensures)
+returns c = substitutes _ _ (c .sub-gates .ensures)
 
 pub sub-bytes-spec : {M : Type 1} → statement M
-sub-bytes-spec = tie.close (tie.spec (λ c κs. search needs) (λ c κs. search needs) returns)
+sub-bytes-spec = tie.close (tie.spec (λ c κs. search needs) returns)

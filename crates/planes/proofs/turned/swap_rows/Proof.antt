@@ -1,6 +1,6 @@
 use Rattle.planes.proofs.Halves.{first-swapped, second-swapped}
-use Rattle.planes.proofs.packing.swap_rows.Statement.{statement}
-use Rattle.planes.proofs.packing.swap_rows.Tie as tie
+use Rattle.planes.proofs.turned.swap_rows.Statement.{statement}
+use Rattle.planes.proofs.turned.swap_rows.Tie as tie
 
 returns : tie.Need-returns
 returns c = (first-swapped _ _ _ (c .pre), second-swapped _ _ _ (c .pre))
