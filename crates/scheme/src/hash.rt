@@ -75,17 +75,17 @@ fn rekeyed_four(t: &[u8; 256], a: Block, x: Block, i: u64, b: Block, y: Block, j
     ensures { λ h. ⌜ HashedFour rekeyedHash (a .bytes) (x .bytes) i (b .bytes) (y .bytes) j h ⌝ }
 {
     let k = slice_pair(t, Block::of_number(i), Block::of_number(j));
-    let u = a.sigma();
-    let v = x.sigma();
-    let w = b.sigma();
-    let z = y.sigma();
+    let e = a.sigma();
+    let f = x.sigma();
+    let g = b.sigma();
+    let h = y.sigma();
     masked_four(
         &k,
         Four {
-            a: u,
-            b: v,
-            c: w,
-            d: z,
+            a: e,
+            b: f,
+            c: g,
+            d: h,
         },
     )
 }
