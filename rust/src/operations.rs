@@ -176,8 +176,8 @@ pub fn encode(circuit: &[u8], values: &[u8], zeros: &[u8], ones: &[u8], tokens: 
 /// Not constant-time: AES goes by look-ups in tables, by bytes that come of the tokens, and schemes 1 and 2 take a row by the
 /// tokens' colours. Through the cache, somebody who runs code on the same machine may learn bits of the tokens that are held,
 /// or all of them. A token alone shows no value. But whoever has those of all inputs and the material evaluates and decodes as
-/// the caller does; and to the garbler, who has both tokens of every wire, a bit of the one that is held can show the wire's
-/// value. So evaluate on a machine that is shared with nobody who may not have these tokens.
+/// the caller does; and to the garbler, who knows which token of a wire stands for which value, a bit of the one that is held can
+/// show it. So evaluate on a machine that is shared with nobody who may not have these tokens.
 ///
 /// A garbling is for one evaluation: a second, on another input list, shows R wherever two tokens of a wire differ.
 ///
