@@ -103,7 +103,8 @@ impl Garbling {
         self.calls
     }
 
-    /// The token of an input for a bit, 16 bytes: `wire` counts from 1, `bit` is 0 or 1.
+    /// The token of an input for a bit, 16 bytes: `wire` counts from 1, `bit` is 0 or 1. Where it lies shows the bit, as
+    /// [`pick`](crate::pick) says.
     ///
     /// # Errors
     ///

@@ -1,4 +1,4 @@
-// The cipher by the tables, of one block and of two. It is what the garbler and the evaluator spend their time in.
+// The cipher by the tables, of one block and of two. It is what the evaluator spends its time in.
 use crate::folded::Folded;
 use crate::packed::Words;
 use block::Block;
