@@ -62,9 +62,10 @@
  * before, refusals 25 and 26, and weighhare_output_tokens; no function's arguments moved. 0.8.0 adds weighhare_comparator
  * and refusal 21, which it alone gives, and the numbers 22 to 24, which nothing gives yet; no function's arguments moved.
  * 0.9.0 adds the lengths below, from weighhare_wire_tokens_length on, which stand in this header alone: the archive has
- * the functions of 0.8.0.
+ * the functions of 0.8.0. From 0.10.0 on garble and encode look nothing up and branch nowhere by a secret, as said above;
+ * no function's arguments moved.
  */
-#define WEIGHHARE_VERSION "0.9.0"
+#define WEIGHHARE_VERSION "0.10.0"
 
 #include <stddef.h>
 #include <stdint.h>

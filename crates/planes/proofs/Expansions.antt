@@ -1,7 +1,6 @@
 -- SubWord by look-ups, in packed words. Assumes nothing.
 use mathlib.Core.Path.{_≡_, ap, _∙_}
 use Prim.Native.Nat.{ℕ, _+_, _*_, _/_, _%_, _^_, _<_}
-use native.Mathlib.Omega.{arith}
 use Rattle.model.specs.Aes.{sBox, subWord}
 use Rattle.aes.specs.Tables.{wordOf}
 use Rattle.aes.proofs.Packing.{four, packed, bytes}

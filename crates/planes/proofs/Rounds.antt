@@ -6,7 +6,7 @@ use native.Mathlib.Omega.{arith}
 use borrow.Author.Tests.{ne-eqb}
 use lib.Bits.{bitXor}
 use lib.ListN.{length}
-use Rattle.model.specs.Aes.{Block, _⊕_, sBox, subBytes, shiftRows, mixColumns, roundKey, addRoundKey, aesRound, rounds, cipher, keyExpansion, fixedKey, aes, π}
+use Rattle.model.specs.Aes.{Block, _⊕_, sBox, subBytes, shiftRows, mixColumns, roundKey, addRoundKey, aesRound, rounds, cipher}
 use Rattle.model.proofs.Xor.{⊕-assoc, ⊕-self, ⊕-zero}
 use Rattle.model.proofs.XorRules.{xors}
 use Rattle.planes.specs.declared.planes.Planes.{Planes}
@@ -16,7 +16,7 @@ use Rattle.planes.specs.Mixing.{MixedAt}
 use Rattle.planes.specs.Packing.{Packed, Unpacked}
 use Rattle.planes.specs.Sliced.{keyPlanes, all63, SlicedFrom, turnBy}
 use Rattle.planes.specs.Rounds.{roundOf, roundsFrom, cipherFrom}
-use Rattle.planes.specs.Four.{FourFrom, FourIs, PermutesFour}
+use Rattle.planes.specs.Four.{FourFrom, FourIs}
 use Rattle.planes.proofs.Blocks.{sub-block, add-block, shifts, turned-block, mix-block, shift-63, mix-63}
 
 -- ---- one round
@@ -143,8 +143,3 @@ ciphers k r {i} p {q₀} {q} is-p is-q₀ inv h is-y ws sliced =
 pub encrypts : {ws : ℕ → List ℕ} {x y : Four} → FourFrom 1 ws x y → FourIs ws x y
 unfolding cipherFrom turnBy roundsFrom roundOf cipher rounds
 encrypts f = record { is-a = f .is-a; is-b = f .is-b; is-c = f .is-c; is-d = f .is-d }
-
--- π is the cipher under the fixed key
-pub permutes : {x y : Four} → FourIs (λ b. keyExpansion fixedKey) x y → PermutesFour x y
-unfolding aes π
-permutes f = record { is-a = f .is-a; is-b = f .is-b; is-c = f .is-c; is-d = f .is-d }

@@ -76,9 +76,9 @@ outLane w j = j % 4 * 16 + (w + j) % 2 * 8 + j / 4 * 4 + w / 2
 abbrev pub Spread : Planes → Planes → Type 0
 Spread = From (λ w l. inWord l) (λ w l. 8 * inByte l + w)
 
+abbrev pub Gathered : Planes → Planes → Type 0
+Gathered = From (λ w l. l % 8) (λ w l. outLane w (l / 8))
+
 -- the words of four blocks, of which block 1 is block 0 again, and block 3 block 2
 unfoldable pub twice : Pairs → Planes
 twice x = record { p0 = x .a; p1 = x .b; p2 = x .a; p3 = x .b; p4 = x .c; p5 = x .d; p6 = x .c; p7 = x .d }
-
-abbrev pub Gathered : Planes → Planes → Type 0
-Gathered = From (λ w l. l % 8) (λ w l. outLane w (l / 8))

@@ -2,7 +2,7 @@
 use Prim.Native.Nat.{ℕ}
 use mathlib.Core.Path.{_≡_}
 use mathlib.Core.List.{List}
-use Rattle.model.specs.Aes.{cipher, π}
+use Rattle.model.specs.Aes.{cipher}
 use Rattle.planes.specs.declared.packing.Four.{Four}
 use Rattle.planes.specs.Rounds.{cipherFrom}
 
@@ -19,10 +19,3 @@ pub record FourIs (ws : ℕ → List ℕ) (x y : Four) : Type 0 where
   pub is-b : y .b .bytes ≡ cipher (ws 1) (x .b .bytes)
   pub is-c : y .c .bytes ≡ cipher (ws 2) (x .c .bytes)
   pub is-d : y .d .bytes ≡ cipher (ws 3) (x .d .bytes)
-
--- each by π
-pub record PermutesFour (x y : Four) : Type 0 where
-  pub is-a : y .a .bytes ≡ π (x .a .bytes)
-  pub is-b : y .b .bytes ≡ π (x .b .bytes)
-  pub is-c : y .c .bytes ≡ π (x .c .bytes)
-  pub is-d : y .d .bytes ≡ π (x .d .bytes)

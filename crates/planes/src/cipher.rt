@@ -4,9 +4,8 @@ use crate::packing::pack;
 use crate::packing::unpack;
 ghost use mathlib.Core.List.{List};
 ghost use Prim.Native.Nat.{ℕ, _<_};
-ghost use Rattle.model.specs.Aes.{keyExpansion, fixedKey};
 ghost use Rattle.planes.specs.Sliced.{SlicedFrom, IsSliced};
-ghost use Rattle.planes.specs.Four.{FourFrom, FourIs, PermutesFour};
+ghost use Rattle.planes.specs.Four.{FourFrom, FourIs};
 
 // Four blocks through the first AddRoundKey and rounds r to 10, under the schedules that k has for them, whichever these are. A round
 // stands here once, the last with the others, and whatever enciphers comes here: so the compiler puts the S-box's circuit into the loop.
@@ -27,12 +26,4 @@ pub fn encrypt_four(k: &[u64; 88], x: Four) -> Four
     ensures { λ y. ⌜ ((ws : ℕ → List ℕ) → IsSliced ws (now (k .entry)) → FourIs ws x y) ⌝ }
 {
     cipher_from(k, x, 1)
-}
-
-// π of four blocks; k is the fixed key's schedule in planes.
-pub fn permute_four(k: &[u64; 88], x: Four) -> Four
-    requires { ⌜ IsSliced (λ b. keyExpansion fixedKey) (now k) ⌝ }
-    ensures { λ y. ⌜ PermutesFour x y ⌝ }
-{
-    encrypt_four(k, x)
 }

@@ -11,7 +11,6 @@ mod schedule; // key expansion
 mod cipher; // the rounds
 
 pub use cipher::encrypt_four;
-pub use cipher::permute_four;
 pub use packing::Four;
 pub use packing::pack;
 pub use packing::unpack;

@@ -1,5 +1,5 @@
 // A schedule in planes: words 8r to 8r + 7 are the planes of the four blocks' keys of round r. From round 1 on they have hex 63 added to every
-// byte, for SubBytes (§5.1.1), which leaves it out: MixColumns, {02} + {03} + {01} + {01} = {01} times each, does not change it.
+// byte, for SubBytes (§5.1.1), which leaves it out: MixColumns does not change it, as {02} ⊕ {03} ⊕ {01} ⊕ {01} = {01} (§5.1.3).
 use crate::exchange::Pairs;
 use crate::exchange::spread_pairs;
 use crate::expansion::next_key;

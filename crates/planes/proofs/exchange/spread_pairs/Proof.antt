@@ -1,4 +1,3 @@
-use borrow.Author.Needs.{needs}
 use Rattle.planes.proofs.Swaps.{by-1, by-2, by-4, by-8, by-16, by-32, spreads-pairs}
 use Rattle.planes.proofs.exchange.spread_pairs.Statement.{statement}
 use Rattle.planes.proofs.exchange.spread_pairs.Tie as tie

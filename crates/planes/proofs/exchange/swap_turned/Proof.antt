@@ -1,5 +1,4 @@
 use mathlib.Core.Path.{refl}
-use borrow.Author.Needs.{needs}
 use Rattle.planes.proofs.Swaps.{swaps-turned}
 use Rattle.planes.proofs.exchange.swap_turned.Statement.{statement}
 use Rattle.planes.proofs.exchange.swap_turned.Tie as tie
