@@ -27,9 +27,9 @@ named, on 2,100 calls with a bit of an argument changed, and with every scheme b
 """
 
 CHAINED = """Chained rounds: the library once more, made by `bench/chained`, with AES by SubBytes, ShiftRows, MixColumns and AddRoundKey one
-after the other in place of look-ups in the four tables. The body of one function is all that differs in the source, and its contract
-is the same; it names the S-box for each block, which is about a hundredth of its instructions. Scheme 4's keys are expanded by the
-tables in both. This form is proved like the library and
+after the other in place of look-ups in the four tables, which evaluate has. The bodies of two functions are all that differs in the source, and their
+contracts are the same; they name the S-box for each block or two, which is about a hundredth of their instructions. Scheme 4's keys are expanded by the
+tables in both, and garble is by planes in both. This form is proved like the library and
 has its turn like a baseline, and what it writes was compared in the same way.
 """
 
