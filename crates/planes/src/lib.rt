@@ -19,4 +19,3 @@ pub use schedule::expand_key;
 pub use schedule::sub_word;
 pub use sliced::slice_one;
 pub use sliced::slice_pair;
-pub use sliced::slice_schedule;

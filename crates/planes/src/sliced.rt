@@ -64,27 +64,19 @@ fn put_key(k: &mut [u64; 88], r: usize, x: Halves, y: Halves)
     }
 }
 
-// Two schedules in planes: the first for blocks a and b, the second for c and d.
-pub fn slice_schedule(u: &[u8; 176], v: &[u8; 176]) -> [u64; 88]
-    ensures { λ k. ⌜ IsSliced (byPair (now (u .entry)) (now (v .entry))) k ⌝ }
+// A schedule in planes, for all four blocks.
+pub fn slice_one(w: &[u8; 176]) -> [u64; 88]
+    ensures { λ k. ⌜ IsSliced (λ b. now (w .entry)) k ⌝ }
 {
     let mut k = [0u64; 88];
     for r in 0..11 {
-        let x = Words::round_key(u, r);
-        let y = Words::round_key(v, r);
-        put_key(&mut k, r, halves_of(x), halves_of(y));
+        let x = halves_of(Words::round_key(w, r));
+        put_key(&mut k, r, x, x);
     }
     k
 }
 
-// One schedule for all four blocks.
-pub fn slice_one(w: &[u8; 176]) -> [u64; 88]
-    ensures { λ k. ⌜ IsSliced (λ b. now (w .entry)) k ⌝ }
-{
-    slice_schedule(w, w)
-}
-
-// The schedules of two public keys in planes, as slice_schedule has them. A key of each is made and put into planes before the next: so none is
+// The schedules of two public keys in planes, the first for blocks a and b, the second for c and d. A key of each is made and put into planes before the next: so none is
 // written and read again as bytes.
 pub fn slice_pair(t: &[u8; 256], i: Block, j: Block) -> [u64; 88]
     requires { ⌜ IsSBox (now t) ⌝ }
