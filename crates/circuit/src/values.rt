@@ -21,8 +21,8 @@ pub enum Bits {
     Fault(usize),
 }
 
-// What all values together have beyond their lowest bits: 0 where each of them is a bit. Nothing branches by a single value, so that a value's own
-// bit, which is a secret, shows in no time.
+// What all values together have beyond their lowest bits: 0 where each of them is a bit. Nothing branches by a single value: a value's own
+// bit is a secret, and no time may depend on it.
 fn beyond_bits(values: &[u8]) -> u8
     ensures { λ r. ⌜ (r ≡ 0 → fine ≡ bitsVerdict (now (values .entry))) ⌝ }
 {

@@ -32,7 +32,7 @@ fn run_block(run: u64, i: usize) -> Block
     }.block()
 }
 
-// AES under the seed of the blocks of four wires; k has the seed's schedule in planes.
+// AES under the seed of the blocks of four wires; ks has the seed's schedule in planes.
 pub fn hold(ks: &[u64; 88], run: u64, i: usize, j: usize, k: usize, l: usize) -> Held
     ensures { λ r. ⌜ ((seed : List ℕ) → SeedPlanes seed (now (ks .entry)) → HeldIs seed run r) × (r .i ≡ i) ⌝ }
 {
