@@ -35,11 +35,11 @@
  *   - After use the garbler wipes the seed, `zeros` and `ones`, the evaluator its `tokens` and `wires`, and each its own
  *     values, by a call that a compiler does not drop, such as explicit_bzero. Nothing here wipes anything. What a
  *     function leaves on the stack is not wiped either.
- *   - Secret are, at the garbler's, the seed, R, both tokens of every wire and the values; at the evaluator's, the tokens
- *     that it holds. The circuit, the material, lengths, the run number, the scheme and what is refused are not. garble and
- *     encode look nothing up and branch nowhere by a secret: this is tested on the archive, for x86-64, under valgrind's
- *     memcheck, and not proved. evaluate, in both forms, looks tables up by its tokens, and what pick answers shows its
- *     bit: see there. How long anything takes is promised of no function.
+ *   - Secret are, at the garbler's, the seed, R, both tokens of every wire and the values; at the evaluator's, the
+ *     tokens that it holds. The circuit, the material, lengths, the run number, the scheme and what is refused are not.
+ *     In garble and encode no look-up and no branch depends on a secret: this is tested on the archive, for x86-64,
+ *     under valgrind's memcheck, and not proved. evaluate, in both forms, is not constant-time, and what pick answers
+ *     shows its bit: see there. How long anything takes is promised of no function.
  *
  * Below n, m, q and p are the circuit's inputs, outputs, gates and charged gates. Limits: n is 2 to 4,096, m is 1 to q,
  * with the mark 43 49 1 to n+q, q is at least 1, and n+q is at most 65,535. Wires are numbered from 1: the inputs 1 to n,
@@ -55,15 +55,9 @@
 #define WEIGHHARE_H
 
 /*
- * The version of this header, and of the archive and the Rust crate that come with it. The archive itself holds none.
- * 0.5.0 moved the arguments of weighhare_garble: an object compiled with an older header must be compiled anew before it
- * is linked with this archive. No linker notices where it was not. 0.6.0 adds scheme 4, which was refusal 14 before; no
- * function's arguments moved. 0.7.0 adds circuits whose outputs are named, with the mark 43 49, which was refusal 2
- * before, refusals 25 and 26, and weighhare_output_tokens; no function's arguments moved. 0.8.0 adds weighhare_comparator
- * and refusal 21, which it alone gives, and the numbers 22 to 24, which nothing gives yet; no function's arguments moved.
- * 0.9.0 adds the lengths below, from weighhare_wire_tokens_length on, which stand in this header alone: the archive has
- * the functions of 0.8.0. From 0.10.0 on garble and encode look nothing up and branch nowhere by a secret, as said above;
- * no function's arguments moved.
+ * The version of this header, and of the archive and the Rust crate that come with it. The archive itself holds none,
+ * and no linker compares arguments: compile every object with the header that came with the archive. docs/CHANGES.md
+ * has what each version changed.
  */
 #define WEIGHHARE_VERSION "0.10.0"
 
@@ -165,8 +159,8 @@ uint8_t weighhare_plain(const uint8_t *circuit, size_t circuit_len, const uint8_
 /*
  * Garbles a circuit. Refusals 1 to 7, 25, 26, 8, 14, 19.
  *
- * No look-up and no branch goes by the seed, R or a token: AES is done by operations on bits, of four blocks at once. This
- * is tested on the archive and not proved.
+ * No look-up and no branch depends on the seed, R or a token: AES is bitsliced, four blocks at once. This is tested on
+ * the archive and not proved.
  *
  *   circuit   the circuit's bytes
  *   seed      16 bytes from getrandom(2) or another source of the system's random numbers, used for no other garbling
@@ -188,8 +182,9 @@ uint8_t weighhare_garble(const uint8_t *circuit, size_t circuit_len, const uint8
  * Chooses the inputs' tokens: for value 0 that of the zero list, for value 1 that of the one list.
  * Refusals 1 to 7, 25, 26, 9, 10, 11, 19.
  *
- * No look-up and no branch goes by a token, or by whether a value is 0 or 1: both tokens of an input are read, and a mask
- * chooses. This is tested on the archive and not proved. That a value is neither, and which is the first, is no secret.
+ * No look-up and no branch depends on a token, or on whether a value is 0 or 1: both tokens of an input are read, and a
+ * mask chooses. This is tested on the archive and not proved. That a value is neither, and which is the first, is no
+ * secret.
  *
  *   circuit  the circuit's bytes
  *   values   n bytes, each 0 or 1
@@ -206,11 +201,12 @@ uint8_t weighhare_encode(const uint8_t *circuit, size_t circuit_len, const uint8
  * Evaluates a garbled circuit: from a token for each input, the token of every wire.
  * Refusals 1 to 7, 25, 26, 11, 12 to 18, 19.
  *
- * Not constant-time: AES goes by look-ups in tables, by bytes that come of the tokens, and schemes 1 and 2 take a row by
- * the tokens' colours. Through the cache, somebody who runs code on the same machine may learn bits of the tokens that are
- * held, or all of them. A token alone shows no value. But whoever has those of all inputs and the material evaluates and
- * decodes as the caller does; and to the garbler, who knows which token of a wire stands for which value, a bit of the
- * one that is held can show it. So evaluate on a machine that is shared with nobody who may not have these tokens.
+ * Not constant-time: AES looks T-tables up at bytes that come of the tokens, and in schemes 1 and 2 the tokens' colours
+ * choose the row that is read. Through the cache, somebody who runs code on the same machine may learn bits of the
+ * tokens that are held, or all of them. A token alone shows no value. But whoever has those of all inputs and the
+ * material evaluates and decodes as the caller does; and to the garbler, who knows which token of a wire stands for
+ * which value, a bit of the one that is held can show it. So evaluate on a machine that is shared with nobody who may
+ * not have these tokens.
  *
  * A garbling is for one evaluation: a second, on another input list, shows R wherever two tokens of a wire differ.
  *
@@ -280,9 +276,10 @@ uint8_t weighhare_decode(const uint8_t *circuit, size_t circuit_len, const uint8
 /*
  * Finds the token of one wire for one bit in the lists of zero and of one tokens. Refusals 10, 11, 20.
  *
- * No look-up and no branch goes by a token, which is tested and not proved. But the bit does not stay hidden: the answer
- * names the list, and the caller then reads the token from the one or the other. Where nobody on the machine may learn
- * the bits, weighhare_encode chooses by a mask: it takes 0 for the inputs of others, whose tokens are then left out.
+ * No look-up and no branch depends on a token, which is tested and not proved. But the bit does not stay hidden: the
+ * answer names the list, and the caller then reads the token from the one or the other. Where nobody on the machine may
+ * learn the bits, weighhare_encode chooses by a mask: it takes 0 for the inputs of others, whose tokens are then left
+ * out.
  *
  *   zeros, ones  lists of tokens, of one length, which is a multiple of 16
  *   wire         from 1

@@ -145,8 +145,8 @@ impl Circuit {
 
     /// Garbles the circuit. Nothing is refused: the circuit was checked, a seed has 16 bytes, and every run number is taken.
     ///
-    /// A seed is for one garbling for each run number; 0 for a seed that has one alone. The library looks nothing up and branches
-    /// nowhere by the seed or a token, which is tested and not proved, as [`garble`](crate::garble) says.
+    /// A seed is for one garbling for each run number; 0 for a seed that has one alone. In the library no look-up and
+    /// no branch depends on the seed or a token, which is tested and not proved, as [`garble`](crate::garble) says.
     ///
     /// ```
     /// use weighhare::{Circuit, Scheme, Seed};
@@ -162,8 +162,8 @@ impl Circuit {
 
     /// The inputs' tokens for their values, 16n bytes: `values` has n bytes, each 0 or 1, `zeros` and `ones` 16n bytes each.
     ///
-    /// The library looks nothing up and branches nowhere by a token or by which bit a value is, which is tested and not proved, as
-    /// [`encode`](crate::encode) says.
+    /// In the library no look-up and no branch depends on a token or on which bit a value is, which is tested and not
+    /// proved, as [`encode`](crate::encode) says.
     ///
     /// # Errors
     ///
@@ -186,8 +186,8 @@ impl Circuit {
 
     /// Evaluates the garbled circuit: from a token for each input, 16n bytes, the token of every wire.
     ///
-    /// The three warnings of [`evaluate`](crate::evaluate) hold: it looks tables up by the tokens, which others on the same machine
-    /// may learn by it, a garbling is for one evaluation, and somebody else's material can be well-formed and wrong.
+    /// The three warnings of [`evaluate`](crate::evaluate) hold: it is not constant-time, and others on the same machine
+    /// may learn the tokens; a garbling is for one evaluation; somebody else's material can be well-formed and wrong.
     ///
     /// # Errors
     ///

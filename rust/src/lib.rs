@@ -39,11 +39,11 @@
 //! - The layer that allocates wipes what it holds: the seed, the garbler's tokens, the evaluator's, and values. Who uses the
 //!   functions on slices wipes the seed, `zeros` and `ones`, `tokens` and `wires`, and the values, by a write that a compiler
 //!   does not drop, such as `write_volatile`. What a function leaves on the stack is not wiped.
-//! - Secret are, at the garbler's, the seed, R, both tokens of every wire and the values; at the evaluator's, the tokens that it
-//!   holds. In the library [`garble`] and [`encode`] look nothing up and branch nowhere by a secret: this is tested on the archive, for
-//!   x86-64, under valgrind's memcheck, and not proved. [`evaluate`] and [`evaluate_gates`] look tables up by their tokens, and
-//!   [`pick`] reads from the one list or the other by its bit: see there. This crate's own code is not tested so, and how long anything
-//!   takes is promised of no function.
+//! - Secret are, at the garbler's, the seed, R, both tokens of every wire and the values; at the evaluator's, the
+//!   tokens that it holds. In the library's [`garble`] and [`encode`] no look-up and no branch depends on a secret:
+//!   this is tested on the archive, for x86-64, under valgrind's memcheck, and not proved. [`evaluate`] and
+//!   [`evaluate_gates`] are not constant-time, and which list [`pick`] reads depends on its bit: see there. This
+//!   crate's own code is not tested so, and how long anything takes is promised of no function.
 //!
 //! # Example
 //!

@@ -76,8 +76,8 @@ pub fn plain(circuit: &[u8], values: &[u8], wires: &mut [u8]) -> Result<(), Refu
 /// token of every wire; and 16n bytes to `ones`, the one token of every input. Both lists are secret. Wipe `seed` when its
 /// last garbling is made, `zeros` and `ones` when the inputs' tokens are chosen.
 ///
-/// No look-up and no branch goes by the seed, R or a token: AES is done by operations on bits, of four blocks at once. This is
-/// tested on the archive and not proved.
+/// No look-up and no branch depends on the seed, R or a token: AES is bitsliced, four blocks at once. This is tested on
+/// the archive and not proved.
 ///
 /// # Errors
 ///
@@ -132,8 +132,9 @@ pub fn garble(
 /// `values` has n bytes, each 0 or 1; `zeros` and `ones` have 16n bytes each, the inputs' zero tokens (the front of what
 /// [`garble`] wrote) and one tokens. Writes 16n bytes to `tokens`.
 ///
-/// No look-up and no branch goes by a token, or by whether a value is 0 or 1: both tokens of an input are read, and a mask
-/// chooses. This is tested on the archive and not proved. That a value is neither, and which is the first, is no secret.
+/// No look-up and no branch depends on a token, or on whether a value is 0 or 1: both tokens of an input are read, and
+/// a mask chooses. This is tested on the archive and not proved. That a value is neither, and which is the first, is no
+/// secret.
 ///
 /// # Errors
 ///
@@ -173,11 +174,12 @@ pub fn encode(circuit: &[u8], values: &[u8], zeros: &[u8], ones: &[u8], tokens: 
 /// `tokens` has 16n bytes, a token for each input; `material` is exactly as long as [`Garbled::length`] says. Writes
 /// 16(n+q) bytes to `wires`: the token of every wire. Wipe `tokens` and `wires` after use.
 ///
-/// Not constant-time: AES goes by look-ups in tables, by bytes that come of the tokens, and schemes 1 and 2 take a row by the
-/// tokens' colours. Through the cache, somebody who runs code on the same machine may learn bits of the tokens that are held,
-/// or all of them. A token alone shows no value. But whoever has those of all inputs and the material evaluates and decodes as
-/// the caller does; and to the garbler, who knows which token of a wire stands for which value, a bit of the one that is held can
-/// show it. So evaluate on a machine that is shared with nobody who may not have these tokens.
+/// Not constant-time: AES looks T-tables up at bytes that come of the tokens, and in schemes 1 and 2 the tokens'
+/// colours choose the row that is read. Through the cache, somebody who runs code on the same machine may learn bits of
+/// the tokens that are held, or all of them. A token alone shows no value. But whoever has those of all inputs and the
+/// material evaluates and decodes as the caller does; and to the garbler, who knows which token of a wire stands for
+/// which value, a bit of the one that is held can show it. So evaluate on a machine that is shared with nobody who may
+/// not have these tokens.
 ///
 /// A garbling is for one evaluation: a second, on another input list, shows R wherever two tokens of a wire differ.
 ///
@@ -351,9 +353,9 @@ pub fn decode(circuit: &[u8], tokens: &[u8], material: &[u8], bits: &mut [u8]) -
 ///
 /// `zeros` and `ones` have one length, a multiple of 16; `wire` counts from 1; `bit` is 0 or 1.
 ///
-/// The bit does not stay hidden: what is handed back lies in the one list or in the other, and is taken by a branch. Where nobody
-/// on the machine may learn the bits, [`encode`] chooses by a mask: it takes 0 for the inputs of others, whose tokens are then left
-/// out.
+/// The bit does not stay hidden: what is handed back lies in the one list or in the other, and a branch on the bit
+/// takes it. Where nobody on the machine may learn the bits, [`encode`] chooses by a mask: it takes 0 for the inputs of
+/// others, whose tokens are then left out.
 ///
 /// # Errors
 ///
