@@ -1,5 +1,5 @@
 /* measure ROUNDS [FIRST]: times the library and the baselines, in turn in each round, and prints a line of words for each
- * result. FIRST is the number of the first round, 0 where it is not given: who is first in a round goes by its number.
+ * result. FIRST is the number of the first round, 0 where it is not given: who is first in a round depends on its number.
  * measure once WORKER OPERATION SCHEME Q: one call, for a count of its instructions. report.py says what the lines mean. */
 #include <stdio.h>
 #include <stdlib.h>
