@@ -143,8 +143,7 @@ pub fn add_run(setting: &mut Vec<u8>, run: u64) {
 /// The case of evaluate's list form on a line: the call, and what must come of it. Nothing where the
 /// line has none.
 pub fn list_case(line: &str) -> Option<(Call, Outcome)> {
-    let fields: Option<Vec<Vec<u8>>> = line.split(' ').map(bytes).collect();
-    let fields = fields?;
+    let fields = fields_of(line)?;
     let [list, tokens, material, setting, answer, after @ ..] = &fields[..] else {
         return None;
     };
@@ -177,6 +176,11 @@ pub fn list_case(line: &str) -> Option<(Call, Outcome)> {
         },
     };
     Some((call, outcome))
+}
+
+/// The fields of a line; nothing where one is not hexadecimal.
+pub fn fields_of(line: &str) -> Option<Vec<Vec<u8>>> {
+    line.split(' ').map(bytes).collect()
 }
 
 /// The bytes of a field.

@@ -1,6 +1,6 @@
 //! The files of cases that the test programs `vectors` and `garblings` read, and those that the test
-//! `lists` hands to the archive: cases of the third reading of 01, and cases made here. The same
-//! files come out of every run.
+//! `lists` hands to the archive: cases of the third reading of 01, and cases made here; and beside them
+//! cases that are wrong on purpose. The same files come out of every run.
 
 use crate::block::Colour;
 use crate::call::{Call, Operation};
@@ -8,6 +8,7 @@ use crate::cases::{self, Asked};
 use crate::chained;
 use crate::compared;
 use crate::evaluator;
+use crate::filled;
 use crate::generate::{self, damage};
 use crate::large::{self, Rule};
 use crate::lines;
@@ -18,6 +19,7 @@ use crate::random::Random;
 use crate::rekeyed;
 use crate::runs;
 use crate::scheme::Scheme;
+use crate::wrong;
 
 /// A file of cases, a line each.
 #[derive(Clone, Debug)]
@@ -32,7 +34,7 @@ impl File {
     /// The folder that it is stored in, from the repository's top: that of the test program that
     /// reads it, of which garble has one of its own, or, of a list of gates, that of the tests here.
     pub fn folder(&self) -> &'static str {
-        match self.name {
+        match self.name.trim_start_matches("wrong-") {
             name if name.starts_with("evaluate-gates") => "tests/data",
             name if name.starts_with("garble") => "crates/garblings/data",
             _ => "crates/vectors/data",
@@ -86,6 +88,16 @@ const NAMED: [(&str, Operation); 6] = [
     ("decode-named", Operation::Decode),
 ];
 
+/// The files of new cases whose buffers say nothing of whether a call is refused.
+fn filled_cases() -> [(&'static str, String); 4] {
+    [
+        ("encode-fill", cases_of(&filled::encodings())),
+        ("evaluate-fill", cases_of(&filled::evaluations())),
+        ("garble-no-room", cases_of(&filled::garblings())),
+        ("fill", filled::buffers()),
+    ]
+}
+
 /// All files made here.
 pub fn files() -> Vec<File> {
     let mut files = Vec::new();
@@ -119,6 +131,10 @@ pub fn files() -> Vec<File> {
     add("chain-named", named::chains());
     add("garble-named", named::garblings());
     add("chain-comparator", compared::chains());
+    for (name, text) in filled_cases() {
+        add(name, text);
+    }
+    files.extend(wrong::files(&files));
     files
 }
 

@@ -46,7 +46,7 @@ pub fn refused(f: Refusal, answer: &[u8]) -> bool {
     (answer[0] == t.number) & (word_at(answer, 1) == t.place)
 }
 
-// Whether an answer is that refusal by one of the chain's calls, whose place among them, 1 to 4, comes first.
+// Whether an answer is that refusal by one of the chain's calls, whose place among them, 1 to 5, comes first.
 pub fn refused_by(call: u8, f: Refusal, answer: &[u8]) -> bool {
     if answer.len() != 6 {
         return false;

@@ -19,13 +19,26 @@ fn run_file(large: bool, path: &[u8]) {
 }
 
 // Cases of a third reading of 01, and those of the second implementation.
-fn main() {
+fn run_right() {
     run_file(false, b"garble");
     run_file(false, b"garble-generated");
     run_file(false, b"garble-one-operand");
     run_file(false, b"garble-runs");
     run_file(false, b"garble-rekeyed");
     run_file(false, b"garble-named");
+    run_file(false, b"garble-no-room");
     run_file(true, b"garble-large");
     run_file(true, b"garble-large-rekeyed");
+}
+
+// Cases that are wrong on purpose: right ones in which one thing that is compared was changed. None may agree, or the
+// comparison compares nothing.
+fn run_wrong() {
+    run_file(false, b"wrong-garble");
+    run_file(true, b"wrong-garble-large");
+}
+
+fn main() {
+    run_right();
+    run_wrong();
 }

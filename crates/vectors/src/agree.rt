@@ -18,6 +18,7 @@ use buffer::read16;
 use cases::answer::done_sizes;
 use cases::answer::ran;
 use cases::answer::refused;
+use cases::fill::left;
 use cases::room;
 use check::same;
 use model::Checked;
@@ -106,10 +107,21 @@ pub fn pick_run<'a>(
     agreed & same(garble::pick(zeros, ones, wire, bit), part)
 }
 
+// The answer, the fill (1 byte), what a buffer must hold where nothing is refused, and what it holds: whether cases of
+// encode, evaluate, decode and garble would agree with it. After a refusal it must hold the fill, and their lines leave
+// it out.
+fn fill_run(answer: &[u8], before: &[u8], after: &[u8], out: &[u8]) -> bool {
+    if before.len() != 1 {
+        return false;
+    }
+    left(answer, before[0], after, out)
+}
+
 // By group: 1 encryption, 2 key expansion, 3 doubling, 4 check, 5 plain, 7 encode, 8 pick, 10 evaluate,
 // 11 decode, 12 the chain, 14 encryption in planes, 15 and 16 by tables as the first and the second block of a pair, 17 key expansion word by
 // word, 18 the schedule of π's key, 19 and 20 encryption in planes under the first and the second of two keys, 21 and 22 as the first and the second
-// block of a pair whose keys are expanded beside them, 23 σ, 24 the outputs' tokens, 25 key expansion by the S-box's circuit.
+// block of a pair whose keys are expanded beside them, 23 σ, 24 the outputs' tokens,
+// 25 key expansion by the S-box's circuit, 26 a buffer after a call.
 pub fn agrees<'a>(
     group: u8,
     a: &'a [u8],
@@ -133,7 +145,7 @@ pub fn agrees<'a>(
         15 => encryption_first(a, b, c),
         16 => encryption_second(a, b, c),
         17 => expansion_word(a, b, c),
-        18 => fixed_expansion(b),
+        18 => fixed_expansion(a, b),
         19 => in_planes_first(a, b, c),
         20 => in_planes_second(a, b, c),
         21 => each_first(a, b, c),
@@ -141,6 +153,7 @@ pub fn agrees<'a>(
         23 => sigma(a, b),
         24 => listed_run(group, a, b, c, d, e),
         25 => expansion_by_gates(a, b),
+        26 => fill_run(a, b, c, d),
         _ => single_run(group, a, b, c, d, d, e, f),
     }
 }

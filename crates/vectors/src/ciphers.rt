@@ -12,7 +12,7 @@ use planes::encrypt_four;
 use planes::slice_one;
 use planes::slice_pair;
 
-// The 16 bytes of a field; of a field of another length, none agrees with anything.
+// The 16 bytes of a field; a field of another length is taken for 16 zeros.
 pub fn block_of(field: &[u8]) -> Block {
     let mut bytes = [0u8; 16];
     if field.len() == 16 {

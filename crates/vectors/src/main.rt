@@ -27,38 +27,37 @@ fn run_file(group: u8, path: &[u8]) {
     run_by(group, path, b"");
 }
 
-// Outside vectors, 01's examples and σ. What enciphers stands in more than one form, and each gets the vectors of FIPS 197.
+// Keys, plaintexts and ciphertexts. What enciphers stands in more than one form, and each gets all of them.
+fn run_encryptions(path: &[u8]) {
+    run_by(1, path, b" by encrypt");
+    run_by(15, path, b" by encrypt_pair, first block");
+    run_by(16, path, b" by encrypt_pair, second block");
+    run_by(21, path, b" by encrypt_each_under, first block");
+    run_by(22, path, b" by encrypt_each_under, second block");
+    run_by(14, path, b" by encrypt_four, each block");
+    run_by(19, path, b" by encrypt_four, two keys, first");
+    run_by(20, path, b" by encrypt_four, two keys, second");
+}
+
+// Keys and their schedules, by both forms of key expansion.
+fn run_expansions(path: &[u8]) {
+    run_by(2, path, b" by tables");
+    run_by(25, path, b" by gates");
+}
+
+// π's key and its schedule, by what makes it and by the constant that holds it.
+fn run_fixed(path: &[u8]) {
+    run_by(2, path, b" by expand_key");
+    run_by(25, path, b" by gates");
+    run_by(18, path, b" by fixed_schedule");
+}
+
+// Outside vectors, 01's examples and σ.
 fn run_outside() {
-    run_by(1, b"fips197-encryption", b" by encrypt");
-    run_by(15, b"fips197-encryption", b" by encrypt_pair, first block");
-    run_by(16, b"fips197-encryption", b" by encrypt_pair, second block");
-    run_by(
-        21,
-        b"fips197-encryption",
-        b" by encrypt_each_under, first block",
-    );
-    run_by(
-        22,
-        b"fips197-encryption",
-        b" by encrypt_each_under, second block",
-    );
-    run_by(14, b"fips197-encryption", b" by encrypt_four, each block");
-    run_by(
-        19,
-        b"fips197-encryption",
-        b" by encrypt_four, two keys, first",
-    );
-    run_by(
-        20,
-        b"fips197-encryption",
-        b" by encrypt_four, two keys, second",
-    );
-    run_by(2, b"fips197-key-expansion", b" by tables");
-    run_by(25, b"fips197-key-expansion", b" by gates");
+    run_encryptions(b"fips197-encryption");
+    run_expansions(b"fips197-key-expansion");
     run_file(17, b"fips197-words");
-    run_by(2, b"fips197-fixed-key", b" by expand_key");
-    run_by(25, b"fips197-fixed-key", b" by gates");
-    run_by(18, b"fips197-fixed-key", b" by fixed_schedule");
+    run_fixed(b"fips197-fixed-key");
     run_file(3, b"doubling");
     run_file(23, b"sigma");
     run_file(4, b"examples");
@@ -119,6 +118,34 @@ fn run_compared() {
     run_file(12, b"chain-comparator");
 }
 
+// Cases of the second implementation whose buffers are the same whether a call is refused or not, so that the answer
+// alone tells; and buffers after calls.
+fn run_filled() {
+    run_file(7, b"encode-fill");
+    run_file(10, b"evaluate-fill");
+    run_file(26, b"fill");
+}
+
+// Cases that are wrong on purpose: right ones in which one thing that is compared was changed. None may agree, or the
+// comparison compares nothing.
+fn run_wrong() {
+    run_encryptions(b"wrong-fips197-encryption");
+    run_expansions(b"wrong-fips197-key-expansion");
+    run_file(17, b"wrong-fips197-words");
+    run_fixed(b"wrong-fips197-fixed-key");
+    run_file(3, b"wrong-doubling");
+    run_file(23, b"wrong-sigma");
+    run_file(4, b"wrong-check");
+    run_file(5, b"wrong-plain");
+    run_file(7, b"wrong-encode");
+    run_file(8, b"wrong-pick");
+    run_file(10, b"wrong-evaluate");
+    run_file(24, b"wrong-output-tokens");
+    run_file(11, b"wrong-decode");
+    run_file(12, b"wrong-chain");
+    run_file(26, b"wrong-fill");
+}
+
 fn main() {
     run_outside();
     run_stored();
@@ -128,4 +155,6 @@ fn main() {
     run_rekeyed();
     run_named();
     run_compared();
+    run_filled();
+    run_wrong();
 }

@@ -3,6 +3,7 @@ use crate::ciphers::block_of;
 use aes::expand_key;
 use aes::fixed_schedule;
 use aes::s_box;
+use block::load;
 use cases::answer::short_at;
 use check::same;
 
@@ -35,8 +36,9 @@ pub fn expansion_word(key: &[u8], index: &[u8], word: &[u8]) -> bool {
     same(&w[at..end], word)
 }
 
-// The schedule of π's key, against the constant.
-pub fn fixed_expansion(schedule: &[u8]) -> bool {
+// π's key and its schedule, against the constant, whose first 16 bytes are the key.
+pub fn fixed_expansion(key: &[u8], schedule: &[u8]) -> bool {
     let w = fixed_schedule();
-    same(&w, schedule)
+    let k = load(&w, 0).bytes;
+    same(&k, key) & same(&w, schedule)
 }
