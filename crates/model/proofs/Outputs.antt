@@ -1,4 +1,4 @@
--- The outputs of the circuit that bytes are: how many, and which wire each is, by the mark. The one file of laws that opens `lastWires`. Assumes nothing.
+-- The outputs of the circuit that bytes are: how many, and which wire each is, by the mark. Assumes nothing.
 use Prim.Native.Nat.{ℕ, zero, suc, _+_, _*_, _-_, _≤_, _<_}
 use native.Mathlib.Omega.{arith}
 use mathlib.Core.Path.{_≡_, refl, _∙_}
