@@ -95,3 +95,8 @@ fn the_script_draws_the_picture() {
 fn the_map_has_every_crate() {
     assert_none(layers::map_faults(&Tree::repository()));
 }
+
+#[test]
+fn crates_name_what_they_use() {
+    assert_none(layers::unused_faults(&Tree::repository()));
+}

@@ -54,6 +54,34 @@ pub fn script_faults(tree: &Tree) -> Vec<String> {
     }
 }
 
+/// A file of a crate uses another crate where a path leads into it, in the code or in the logic.
+fn uses(text: &str, other: &str) -> bool {
+    let path = format!("{other}::");
+    let begins = |(at, _): (usize, &str)| {
+        let before = text[..at].chars().next_back();
+        !before.is_some_and(|c| c.is_alphanumeric() || c == '_')
+    };
+    let modules = [format!("Rattle.{other}."), format!("Rattle·{other}·")];
+    text.match_indices(&path).any(begins) || modules.iter().any(|module| text.contains(module))
+}
+
+/// Each crate that a line of crates.txt names is used.
+pub fn unused_faults(tree: &Tree) -> Vec<String> {
+    let mut faults = Vec::new();
+    for (name, named) in tree.crates() {
+        let folder = format!("crates/{name}");
+        for other in named {
+            let mut texts = tree.under(&folder).filter_map(|file| tree.text(file));
+            if !texts.any(|text| uses(text, &other)) {
+                faults.push(format!(
+                    "crates.txt: {name} names {other} and does not use it"
+                ));
+            }
+        }
+    }
+    faults
+}
+
 /// The README's section "Map" names each crate, by a link to its folder or in backquotes, and links to no other.
 pub fn map_faults(tree: &Tree) -> Vec<String> {
     let names = crate_names(tree);
@@ -137,4 +165,19 @@ fn crates_of_the_map() {
     assert_eq!(count("- [model](crates/model): types"), 1);
     assert_eq!(count("`model`, `block`, [y](crates/y)"), 1);
     assert_eq!(count(""), 1);
+}
+
+#[test]
+fn crates_that_are_not_used() {
+    let count = |text: &str| {
+        let files = [
+            ("crates.txt", "model:\nblock: model\n"),
+            ("crates/block/src/lib.rt", text),
+        ];
+        unused_faults(&Tree::made(&files)).len()
+    };
+    assert_eq!(count("use model::Wire;"), 0);
+    assert_eq!(count("ghost use Rattle.model.specs.Bytes.{be16};"), 0);
+    assert_eq!(count("use supermodel::Wire; // model"), 1);
+    assert_eq!(count("ghost use Rattle.models.specs;"), 1);
 }
