@@ -1,5 +1,6 @@
-//! Every stored case of a third reading of 01, of 01 with 02's job 2, with its jobs 2 and 4, with its jobs 2,
-//! 4 and 7, and with its jobs 2, 4, 7 and 8: answers and whole buffers.
+//! Every stored case of a third reading of 01 (`data/base.jsonl`, 500 cases), of 01 with 02's job 2
+//! (`job02.jsonl`, 300), with its jobs 2 and 4 (`job04.jsonl`, 300), with its jobs 2, 4 and 7 (`job07.jsonl`,
+//! 300), and with its jobs 2, 4, 7 and 8 (`job08.jsonl`, 400): answers and whole buffers.
 
 use std::collections::BTreeMap;
 

@@ -1,5 +1,7 @@
-//! The chain garble, encode, evaluate, the outputs' tokens, decode of demand 3, on one circuit (01, Operations;
-//! 02, jobs 4, 7 and 8).
+//! The chain garble, encode, evaluate, the outputs' tokens, decode of demand 3, on one circuit (01,
+//! Operations; 02, jobs 4, 7 and 8): compared with the plain circuit at every wire and every output bit, by
+//! each of the four schemes, in run 0 and in others, with outputs that are the last wires and with named
+//! ones.
 
 use std::collections::BTreeSet;
 

@@ -1,5 +1,10 @@
-//! The comparator by width, by the words of 02, job 1, on the second implementation and on the archive. What a
-//! circuit must answer is worked out here from the figures alone, and never from its gates.
+//! The comparator by width, by the words of 02, job 1, on the second implementation and on the archive, for
+//! every width from 1 to 64. What a circuit must answer is worked out here from the figures alone, and never
+//! from its gates. Each circuit is accepted, has 2w inputs, one output, 4w-3 gates, w of them charged, and
+//! 28w-13 bytes, the same by both. Its plain output is 1 exactly when price ≤ ceiling: for all pairs of
+//! figures up to 6 bits, and for those of `pairs` beyond. The chain's bit is compared by each scheme and in
+//! many runs. Widths outside 1 to 64 are refused with any room; a short buffer is refused at the bytes needed
+//! and left as it was; a longer one keeps its tail.
 
 mod sides;
 

@@ -1,6 +1,7 @@
-//! The circuits of ../examples: what the program prints of them, what the two comparators of 8 bits compute,
-//! that the one is what the comparator writes, as are those of more bits, and which bits named outputs give, by
-//! the second implementation and by the archive.
+//! The circuits of ../examples: what the program prints of each; of the two comparators of 8 bits the plain
+//! output for every price and ceiling, by the second implementation and by the archive, and the bit that the
+//! archive's garble, encode, evaluate and decode give for some; that those of 8, 16, 32 and 64 bits are what
+//! the comparator writes; of the named outputs the bits that the archive gives, and the answer to each fault.
 
 #[path = "../src/archive.rs"]
 mod archive;

@@ -1,4 +1,4 @@
-//! The examples of 01, Table of examples.
+//! The examples of 01, Table of examples: P1 to P14, the limits of n, m and q, and what the program prints.
 
 use second::aes::s_box;
 use second::block::Block;

@@ -1,5 +1,6 @@
-//! The archive, through the C interface, with stored cases of evaluate's list form: the number, the
-//! four words and the whole buffer are those that the case has. Nothing is computed here.
+//! The archive, through the C interface, with stored cases of evaluate's list form: the number, the four
+//! words and the whole buffer are those that the case has. Nothing is computed here. The files are
+//! `data/evaluate-gates` and that name with `-generated`, `-one-operand` and `-rekeyed`.
 
 #[path = "../src/archive.rs"]
 mod archive;

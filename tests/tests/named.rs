@@ -1,5 +1,11 @@
 //! Outputs by name, by the words of 02, job 8, on the second implementation and on the archive. Circuits are
-//! put together here byte by byte, and what is due is worked out from these bytes.
+//! put together here byte by byte, and what is due is worked out from these bytes: which marks are taken, how
+//! many outputs there may be, which length there must be; every wire and every mark of an output record,
+//! every three records with any faults, and that they are searched right after the gates; the colours that
+//! garble writes, the outputs' tokens and the decoded bits, in the list's order, on every list of values by
+//! each scheme; what is refused of the outputs' tokens; that a circuit of mark 43 48 and the same with its
+//! last wires named get the same answers and bytes from every operation; that material shows no mark; the
+//! longest circuit.
 
 mod sides;
 

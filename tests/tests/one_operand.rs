@@ -1,5 +1,6 @@
-//! Gates that use one operand, by the words of 02, job 2: what is refused, what such a gate costs, and
-//! which tokens it passes on.
+//! Gates that use one operand, by the words of 02, job 2: which codes are refused, that an operand which is
+//! not used keeps its limit, the gate's value, its zero token, the token that it hands on, and that it has no
+//! row.
 
 use second::block::{Block, BLOCK};
 use second::circuit::{to_bytes, Gate, Sizes};

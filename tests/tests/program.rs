@@ -1,4 +1,6 @@
-//! The built program of the repository against module `program` (01, Table of examples).
+//! The built program of the repository against module `program` (01, Table of examples): on the stored cases
+//! of `data/`, 01's examples, named outputs with each fault, inputs around the longest that it takes, and
+//! random ones. It must be there, at ../target/bin/sizes.
 
 use std::io::{Read, Write};
 use std::path::PathBuf;

@@ -1,4 +1,6 @@
-//! Generated calls, sound and damaged, and what is due to each: the answer, and the output buffers.
+//! Generated calls, sound and damaged, and what is due to each: the answer, and the output buffers. A call is
+//! damaged for one refusal, or for two at once; the number and the place due are those of module `due`.
+//! Evaluate's list form gets the answer that its bytes would get.
 
 mod due;
 

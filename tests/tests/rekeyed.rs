@@ -1,6 +1,10 @@
-//! Scheme 4, by the words of 02, job 7, on the second implementation and on the archive. Tokens and rows
-//! are worked out here once more, from AES alone: half-gates over any hash, once with that of scheme 3 and
-//! once with that of scheme 4.
+//! Scheme 4, by the words of 02, job 7, on the second implementation and on the archive. Tokens and rows are
+//! worked out here once more, from AES alone: half-gates over any hash, once with that of scheme 3 and once
+//! with that of scheme 4. Rows G and E and the zero token are compared for each code and each pair of
+//! colours, on wires up to the last, the opened token on rows of any bytes, and σ with blocks worked by hand.
+//! Further: what schemes 3 and 4 have in common; the chain on every list of values; which scheme bytes are
+//! refused, and that 3 and 4 exchanged are not; that the stored large garblings have charged gates where a
+//! wire number or a tweak gets longer.
 
 mod sides;
 

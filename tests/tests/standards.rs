@@ -1,4 +1,6 @@
-//! AES against FIPS 197 and doubling against the subkeys of CMAC (RFC 4493).
+//! AES against FIPS 197 and doubling against the subkeys of CMAC (RFC 4493). Key expansion is compared word
+//! by word with appendices A.1 and C.1, and with it the files of schedules that the test program `vectors`
+//! has; encryption with appendices B and C.1; the S-box with the example of section 5.1.1.
 
 use std::fs;
 

@@ -136,7 +136,7 @@ static void seven(struct drawing *d) { few(d, 7); }
 static void eight(struct drawing *d) { few(d, 8); }
 static void nine(struct drawing *d) { few(d, 9); }
 
-/* Codes and operands in an order that goes by a rule and looks like none. */
+/* Codes and operands in an order that follows a rule and looks like none. */
 static void mixed(struct drawing *d)
 {
     uint32_t state = 1;

@@ -1,6 +1,20 @@
-//! The second implementation against the proved library's archive, through the C interface: edges of
-//! every refusal, every two refusals at once, circuits at the limits, stored cases, and random calls
-//! for a time. What must come back is the second implementation's answer; output buffers are compared whole.
+//! The second implementation against the proved library's archive, through the C interface: edges of every
+//! refusal, every two refusals at once, circuits at the limits, stored cases, and random calls for a time.
+//! What must come back is the second implementation's answer: the number, the four words, and the output
+//! buffers whole.
+//!
+//! Of the random calls about a quarter of those with a scheme are by scheme 4, half of those on a circuit's
+//! bytes have named outputs, and half of garble's are in run 0. The longest circuit, of 720,879 bytes, is
+//! handed to every operation that takes bytes; every width up to 70 and some far past 64 to the comparator.
+//!
+//! The last part, coverage, prints how often each was met, and fails where one of these was not: every
+//! refusal of every operation; codes 1 to 14 taken and all others refused; every answer of garble in runs of
+//! each kind, which are 0, with bits in the low half alone, in the high half alone, in both; each operation
+//! that has a scheme done by each of the four on a circuit with charged gates, each of its refusals after 14
+//! by each, and all other schemes refused; each operation that takes bytes done with each mark, each kind of
+//! named outputs and the longest circuit; 25 and 26 at the first output, at the last and between; widths 1 to
+//! 64 taken and no other, with 0, 65, 2^32+8 and 2^64-1 refused. It fails too where an operation gave a
+//! number that it does not have, 22 to 24 among them. A part without a call fails.
 
 #[path = "../../src/archive.rs"]
 mod archive;
