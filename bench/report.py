@@ -1,6 +1,7 @@
 """report.py LINES TABLE PLOT: writes the tables (Markdown) and the plot (SVG) of the lines that measure and over_files printed."""
 
 import sys
+import textwrap
 
 from plot import plot
 from results import BASELINES, CALLS, SCHEMES, WORKERS, Results
@@ -49,6 +50,13 @@ MACHINE = "Processor: {processor}. Compiler: {compiler}.\n"
 
 def counted(number, noun):
     return f"{number} {noun}" if number == "1" else f"{number} {noun}s"
+
+
+def wrapped(part):
+    """A paragraph in lines of at most 118 columns; tables and headings stay."""
+    paragraphs = part.strip().split("\n\n")
+    keep = [p if p.startswith(("|", "#")) else textwrap.fill(p, 118, break_on_hyphens=False) for p in paragraphs]
+    return "\n\n".join(keep)
 
 
 def table(head, rows):
@@ -157,7 +165,7 @@ def report(results):
         parts += [repeated_table(results)]
     if ("garble over files", 3, largest) in results.times:
         parts += over_files(results, largest)
-    return "\n\n".join(part.strip() for part in parts) + "\n"
+    return "\n\n".join(wrapped(part) for part in parts) + "\n"
 
 
 def main(lines, table_path, plot_path):
