@@ -59,7 +59,7 @@
  * and no linker compares arguments: compile every object with the header that came with the archive. docs/CHANGES.md
  * has what each version changed.
  */
-#define WEIGHHARE_VERSION "0.10.0"
+#define WEIGHHARE_VERSION "0.10.1"
 
 #include <stddef.h>
 #include <stdint.h>
