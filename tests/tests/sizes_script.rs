@@ -1,34 +1,40 @@
-//! The script `sizes` at the repository's top: what it does before and after the program runs. Each test
-//! has a folder with a copy of the script, and stand-ins for `rt` and for the program that do what the
-//! test says and leave a trace. So no toolchain is needed, and the repository's own build stays untouched.
+//! The script `sizes` at the repository's top, with `tools/prove`: what it does before and after the program
+//! runs. Each test has a folder with copies of the two, and stand-ins for `rt` and for the program that do what
+//! the test says and leave a trace. So no toolchain is needed, and the repository's own build stays untouched.
+//! Tested are its statuses, what cannot be read or written, its options, links, what it says while it proves,
+//! two runs at once, signals, and that nothing unproved is run.
 
 mod places;
 
-use places::{Ended, Place};
+use places::{drawn, over, signals, Ended, Place, PLAYS};
 use std::env;
 use std::fs;
 use std::os::unix::fs::symlink;
 use std::path::Path;
-use std::process::Child;
-use std::time::{Duration, SystemTime};
-
-const HOUR: Duration = Duration::from_secs(3600);
+use std::process::Command;
 
 /// P11 of 01's table, and what the program prints of it.
 const CIRCUIT: [u8; 15] = [0x43, 0x48, 0, 2, 0, 1, 0, 1, 0x43, 0x47, 0, 1, 0, 2, 0x08];
 const ANSWER: &str = "2 1 1 1\n80 64 48\n";
 
-/// The copy of the script, in a folder whose name has a blank.
+/// The copies of the scripts, in a folder whose name has a blank.
 const SCRIPT: &str = "a repository/sizes";
+const PROVE: &str = "a repository/tools/prove";
 const PROGRAM: &str = "a repository/target/bin/sizes";
 const STAMP: &str = "a repository/target/stamp/sizes";
+const LOG: &str = "a repository/target/prove.log";
 const HEADER: &str = "a repository/include/weighhare.h";
 
-/// The crates that the program is built from.
+/// The crates that the program is built from, each after the ones that it names, and the list of all.
 const CRATES: [&str; 6] = ["model", "buffer", "circuit", "material", "text", "sizes"];
+const CRATES_TEXT: &str = "model:\nbuffer: model\nblock: model\ncircuit: model buffer\n\
+    material: model buffer circuit\ntext: model buffer circuit material\nsizes: text io libc\n";
 
-/// The beginning of what the script says before it proves.
-const NOTE: &str = "sizes: proving and building the program";
+/// What is said where the program is not proved.
+const UNPROVED: &str = "sizes: the program is not proved, so it was not built\n";
+
+/// What is said where nothing of it was proved before.
+const FROM_NOTHING: &str = ", about 2 minutes in all";
 
 /// The stand-ins first take all of their standard input. A trace is only of the last run.
 const RT: &str = "cat >/dev/null\necho \"$(pwd -P): $*\" >\"$root/rt-ran\"\n. \"$root/rt-does\"\n";
@@ -39,8 +45,9 @@ impl Place {
     fn new(name: &str) -> Place {
         let place = Place::empty("sizes_script", name);
         place.copy("sizes", SCRIPT);
+        place.copy("tools/prove", PROVE);
         place.copy("include/weighhare.h", HEADER);
-        place.write("a repository/crates.txt", b"sizes: text io libc\n");
+        place.write("a repository/crates.txt", CRATES_TEXT.as_bytes());
         for name in CRATES {
             place.write(&source(name), b"fn main() {}\n");
         }
@@ -48,7 +55,7 @@ impl Place {
         place.write("folder/file", b"");
         place.write("a repository/target/log/sizes.out", b"");
         place.write(STAMP, b"");
-        place.stand_in("tools/rt", RT);
+        place.stand_in("tools/rt", &format!("{PLAYS}{RT}"));
         place.rt("exit 0");
         place.stand_in(PROGRAM, PROGRAM_TEXT);
         place.answer(ANSWER);
@@ -71,26 +78,25 @@ impl Place {
         self.program("cat \"$root/program-says\"");
     }
 
-    /// Starts a script in the folder.
-    fn start(&self, script: &str, words: &[&str], redirection: &str, path: &str) -> Child {
+    /// A script to be run, with the stand-in for `rt` first on the PATH.
+    fn call(&self, script: &str, words: &[&str], redirection: &str) -> Command {
         let mut command = self.command(script, redirection);
-        let started = command.args(words).env("PATH", path).spawn();
-        started.expect("a script that can be started")
+        command.args(words).env("PATH", self.tools());
+        command
     }
 
-    /// Runs a script with a given PATH, with no trace of earlier runs.
-    fn run_on_path(&self, script: &str, words: &[&str], redirection: &str, path: &str) -> Ended {
+    /// Runs what was called, with no trace of earlier runs.
+    fn run_call(&self, command: &mut Command) -> Ended {
         for trace in ["rt-ran", "program-got"] {
             if self.exists(trace) {
                 self.remove(trace);
             }
         }
-        self.end(self.start(script, words, redirection, path))
+        self.end(command.spawn().expect("a script that can be started"))
     }
 
-    /// Runs a script with the stand-in for `rt` first on the PATH.
     fn run_script(&self, script: &str, words: &[&str], redirection: &str) -> Ended {
-        self.run_on_path(script, words, redirection, &self.tools())
+        self.run_call(&mut self.call(script, words, redirection))
     }
 
     fn run(&self, words: &[&str], redirection: &str) -> Ended {
@@ -122,8 +128,17 @@ fn is_early_error(place: &Place, ended: &Ended, message: &str) {
 
 /// The program is not proved: an error that says so, and the program of an earlier run is not run.
 fn is_unproved(place: &Place, ended: &Ended) {
-    ended.is_error("sizes: the program is not proved, so it was not built");
+    ended.is_error(UNPROVED);
     assert!(!place.exists("program-got"), "{ended:?}");
+}
+
+/// What is said last where the program is not proved, and the prover said why.
+fn last_lines(place: &Place) -> String {
+    let log = fs::canonicalize(place.path(LOG)).expect("a file that is there");
+    format!(
+        "{UNPROVED}sizes: all that the prover said is in {}\n",
+        log.display()
+    )
 }
 
 /// The fault that was found: where the log could not be written, the script ran the program of an earlier
@@ -145,8 +160,40 @@ fn unproved() {
         place.rt(&does);
         let ended = place.run(&["circuit"], "");
         is_unproved(&place, &ended);
-        ended.is_error("one reason\nanother reason\n");
+        let due = format!("one reason\nanother reason\n{}", last_lines(&place));
+        assert_eq!(ended.stderr, due);
     }
+}
+
+/// The fault that was found, in this script: where the file for what `rt` says cannot be written, nothing is run.
+#[test]
+fn unproved_where_the_log_cannot_be_written() {
+    let place = Place::new("no_log");
+    place.write(&format!("{LOG}/file"), b"");
+    let ended = place.run(&["circuit"], "");
+    is_early_error(&place, &ended, "target/prove.log\n");
+    assert!(ended.stderr.contains("sizes: cannot write /"), "{ended:?}");
+}
+
+/// The file has all that `rt` said in the last run, and the last lines are shown.
+#[test]
+fn a_long_reason() {
+    let place = Place::new("long_reason");
+    let lines: Vec<String> = (1..=50).map(|number| format!("line {number}\n")).collect();
+    place.write("reason", lines.concat().as_bytes());
+    for times in [1, 2] {
+        place.rt("cat \"$root/reason\"\nexit 1");
+        let ended = place.run(&["circuit"], "");
+        is_unproved(&place, &ended);
+        let due = format!("{}{}", lines[30..].concat(), last_lines(&place));
+        assert_eq!(ended.stderr, due);
+        let log = fs::read_to_string(place.path(LOG)).expect("a file");
+        assert_eq!(log, lines.concat(), "after {times}");
+    }
+    place.rt("echo one line\necho another line >&2");
+    place.run(&["circuit"], "").answers(0, ANSWER);
+    let log = fs::read_to_string(place.path(LOG)).expect("a file");
+    assert_eq!(log, "one line\nanother line\n");
 }
 
 /// Where `rt` cannot write its verdict, it takes that of an earlier run.
@@ -177,12 +224,32 @@ fn unproved_where_an_earlier_verdict_stays() {
 fn two_at_once() {
     let place = Place::new("two_at_once");
     place.rt("mkdir \"$root/busy\" && sleep 0.3 && rmdir \"$root/busy\"");
-    let tools = place.tools();
-    let children = [1, 2].map(|_| place.start(SCRIPT, &["circuit"], ">/dev/null", &tools));
+    let children = [1, 2].map(|_| {
+        let mut call = place.call(SCRIPT, &["circuit"], ">/dev/null");
+        call.spawn().expect("a script that can be started")
+    });
     for child in children {
         let ended = place.end(child);
         assert_eq!(ended.status, Some(0), "{ended:?}");
     }
+}
+
+/// Whoever waits for long says so.
+#[test]
+fn one_that_waits() {
+    let place = Place::new("waits");
+    place.stand_in("other", &format!("{PLAYS}said waiting\n"));
+    let mut call = place.call(SCRIPT, &["circuit"], "");
+    let mut other = Command::new("flock")
+        .args(["a repository", "./other"])
+        .current_dir(place.path(""))
+        .spawn()
+        .expect("a lock");
+    let ended = place.run_call(&mut call);
+    assert!(other.wait().expect("an end").success());
+    let found = (ended.status, ended.stdout.as_str(), ended.stderr.as_str());
+    let due = "sizes: waiting for another run, which is proving\n";
+    assert_eq!(found, (Some(0), ANSWER, due));
 }
 
 #[test]
@@ -191,8 +258,8 @@ fn no_toolchain() {
     let path = env::var("PATH").expect("a PATH");
     let without = env::split_paths(&path).filter(|folder| !folder.join("rt").exists());
     let without = env::join_paths(without).expect("a PATH without rt");
-    let without = without.to_str().expect("a PATH in UTF-8");
-    let ended = place.run_on_path(SCRIPT, &["circuit"], "", without);
+    let mut call = place.call(SCRIPT, &["circuit"], "");
+    let ended = place.run_call(call.env("PATH", without));
     is_early_error(
         &place,
         &ended,
@@ -361,7 +428,7 @@ fn output_that_cannot_be_written() {
 #[test]
 fn no_standard_error() {
     let place = Place::new("no_standard_error");
-    place.remove(STAMP);
+    place.rt("begins sizes; sleep 0.3");
     place.run(&["circuit"], "2>&-").answers(0, ANSWER);
     place.answer("too long\n");
     place
@@ -471,51 +538,160 @@ fn through_links() {
     }
 }
 
-/// An answer after a note that the program is proved, which takes its time.
-fn is_noted(ended: &Ended) {
-    let found = (ended.status, ended.stdout.as_str());
-    assert_eq!(found, (Some(0), ANSWER), "{ended:?}");
-    assert!(ended.stderr.starts_with(NOTE), "{ended:?}");
-    assert!(ended.stderr.contains("minute"), "{ended:?}");
-    assert_eq!(ended.stderr.lines().count(), 1, "{ended:?}");
+/// The lines of some of the crates, with what follows the time.
+fn lines(crates: &[&str], rest: &str) -> String {
+    let number = |name| {
+        CRATES
+            .iter()
+            .position(|other| *other == name)
+            .expect("a crate")
+            + 1
+    };
+    let lines = crates
+        .iter()
+        .map(|name| line(number(*name), name, rest) + "\n");
+    lines.collect()
+}
+
+fn line(number: usize, names: &str, rest: &str) -> String {
+    format!("sizes: proving {number} of 6: {names} (T so far{rest})")
+}
+
+/// What the stand-in does to all crates: those of a list are proved, and the others unchanged.
+fn proves(crates: &[&str]) -> String {
+    let does = CRATES.map(|name| match crates.contains(&name) {
+        true => format!("proves {name}\n"),
+        false => format!("unchanged {name}\n"),
+    });
+    does.concat()
+}
+
+/// An answer after these messages.
+fn is_answer(ended: &Ended, messages: &str) {
+    let found = (ended.status, ended.stdout.as_str(), ended.timeless());
+    assert_eq!(found, (Some(0), ANSWER, messages.to_owned()));
 }
 
 #[test]
-fn a_note_at_the_first_build() {
-    let place = Place::new("first_build");
+fn a_line_for_each_crate() {
+    let place = Place::new("lines");
     place.remove(STAMP);
     place.remove(PROGRAM);
     place.stand_in("built", PROGRAM_TEXT);
-    place.rt("cp \"$root/built\" target/bin/sizes && : >target/stamp/sizes");
-    is_noted(&place.run(&["circuit"], ""));
-    place.run(&["circuit"], "").answers(0, ANSWER);
-    for missing in [STAMP, PROGRAM] {
-        place.remove(missing);
-        is_noted(&place.run(&["circuit"], ""));
-    }
-    // The note comes before the proof, and so where that fails too.
+    let build = "cp \"$root/built\" target/bin/sizes && : >target/stamp/sizes";
+    place.rt(&format!("{}{build}", proves(&CRATES)));
+    is_answer(&place.run(&["circuit"], ""), &lines(&CRATES, FROM_NOTHING));
+    // Those of a run from nothing alone say how long it takes.
+    is_answer(&place.run(&["circuit"], ""), &lines(&CRATES, ""));
     place.remove(STAMP);
-    place.rt("exit 1");
-    let ended = place.run(&["circuit"], "");
-    is_unproved(&place, &ended);
-    assert!(ended.stderr.starts_with(NOTE), "{ended:?}");
+    place.write("a repository/target/stamp/block", b"");
+    is_answer(&place.run(&["circuit"], ""), &lines(&CRATES, FROM_NOTHING));
+    for name in CRATES {
+        place.remove(STAMP);
+        let stamp = format!("a repository/target/stamp/{name}");
+        place.write(&stamp, b"");
+        place.rt(&format!("{}{build}", proves(&[])));
+        place.run(&["circuit"], "").answers(0, ANSWER);
+        place.rt(&format!("{}{build}", proves(&["sizes"])));
+        is_answer(&place.run(&["circuit"], ""), &lines(&["sizes"], ""));
+        if name != "sizes" {
+            place.remove(&stamp);
+        }
+    }
 }
 
+/// What an earlier run left does not count.
 #[test]
-fn a_note_after_a_change() {
-    let place = Place::new("change");
-    let now = SystemTime::now();
-    let mut files: Vec<String> = CRATES.into_iter().map(source).collect();
-    files.push("a repository/crates.txt".to_owned());
-    for file in &files {
-        place.set_modified(PROGRAM, now + HOUR);
-        place.run(&["circuit"], "").answers(0, ANSWER);
-        place.set_modified(file, now + 2 * HOUR);
-        is_noted(&place.run(&["circuit"], ""));
-        place.set_modified(file, now);
+fn crates_that_are_unchanged() {
+    let place = Place::new("unchanged");
+    for crates in [&[][..], &["model"], &["material"], &["text", "sizes"]] {
+        for name in CRATES {
+            place.write(&format!("a repository/target/log/{name}.say"), b"");
+            place.write(&format!("a repository/target/log/{name}.res"), b"proved\n");
+        }
+        place.rt(&proves(crates));
+        is_answer(&place.run(&["circuit"], ""), &lines(crates, ""));
     }
-    // A file that is newer and holds the same: rt does nothing, and the next run says nothing.
-    place.set_modified(PROGRAM, now - HOUR);
-    is_noted(&place.run(&["circuit"], ""));
-    place.run(&["circuit"], "").answers(0, ANSWER);
+}
+
+/// However short it takes.
+#[test]
+fn a_crate_that_is_proved_at_once() {
+    let place = Place::new("at_once");
+    for _ in 0..3 {
+        let others = proves(&[]).replace("unchanged sizes", "begins sizes; ends sizes");
+        place.rt(&others);
+        is_answer(&place.run(&["circuit"], ""), &lines(&["sizes"], ""));
+    }
+}
+
+/// A crate that names one that is not proved is not proved either, and none begins.
+#[test]
+fn a_crate_that_is_not_proved() {
+    let place = Place::new("crate_not_proved");
+    let does = "echo failed >target/log/buffer.res; sleep 0.3; echo a reason; exit 1";
+    place.rt(&format!("begins model; said 'model ('; {does}"));
+    let ended = place.run(&["circuit"], "");
+    is_unproved(&place, &ended);
+    let due = format!("{}a reason\n{}", lines(&["model"], ""), last_lines(&place));
+    assert_eq!(ended.timeless(), due);
+}
+
+/// One line that is written over, and cleared before the answer.
+#[test]
+fn on_a_terminal() {
+    let place = Place::new("terminal");
+    let run = || {
+        let mut command = place.on_terminal("'a repository/sizes' circuit", "xterm")?;
+        Some(place.run_call(command.env("PATH", place.tools())))
+    };
+    let answer = ["2 1 1 1", "\n80 64 48", "\n"];
+    place.rt(&proves(&["text", "sizes"]));
+    let Some(ended) = run() else { return };
+    let due = [
+        "",
+        &over(&line(5, "text", "")),
+        &over(&line(6, "sizes", "")),
+        "\x1b[K2 1 1 1",
+        answer[1],
+        answer[2],
+    ];
+    assert_eq!((ended.status, ended.stderr.as_str()), (Some(0), ""));
+    assert_eq!(drawn(&ended.stdout), due);
+    // Where nothing is proved, nothing is cleared.
+    place.rt(&proves(&[]));
+    let ended = run().expect("a terminal");
+    assert_eq!(drawn(&ended.stdout), answer);
+}
+
+/// `rt` runs the program in its folder for temporary files, which others can go through. It is not in memory, where
+/// that may be forbidden.
+#[test]
+fn temporary_files() {
+    let place = Place::new("temporary_files");
+    place.write("temporary/file", b"");
+    place.rt("mktemp >/dev/null; ls -ld \"$TMPDIR\"; echo $TMPDIR >\"$root/room\"");
+    for (variable, folder) in [(place.path("temporary"), "temporary"), ("".into(), "/tmp")] {
+        let mut call = place.call(SCRIPT, &["circuit"], "");
+        place
+            .run_call(call.env("TMPDIR", variable))
+            .answers(0, ANSWER);
+        let log = fs::read_to_string(place.path(LOG)).expect("a file");
+        assert!(log.starts_with("drwx--x--x"), "{log}");
+        let room = fs::read_to_string(place.path("room")).expect("a file");
+        let room = Path::new(room.trim_end());
+        assert_eq!(room.parent(), Some(place.path(folder).as_path()));
+        assert!(!room.exists());
+    }
+}
+
+/// What `rt` started takes no notice of some signals, and ends all the same.
+#[test]
+fn a_signal() {
+    let place = Place::new("signal");
+    place.rt("lingers model");
+    for signal in signals() {
+        place.is_ended_by(signal, &mut place.call(SCRIPT, &["circuit"], ""));
+    }
+    assert!(!place.exists("program-got"));
 }

@@ -2,6 +2,7 @@
 //! what they start, which do what the test says and leave a trace. So no toolchain is needed, and the
 //! repository's own build stays untouched.
 
+use std::env;
 use std::fs::{self, File};
 use std::os::unix::fs::PermissionsExt;
 use std::os::unix::process::CommandExt;
@@ -9,10 +10,36 @@ use std::path::{Path, PathBuf};
 use std::process::{Child, Command, Stdio};
 use std::sync::{Mutex, MutexGuard, PoisonError};
 use std::thread;
-use std::time::{Duration, Instant, SystemTime};
+use std::time::{Duration, Instant};
 
 /// The time that one run may take.
 const TIME: Duration = Duration::from_secs(10);
+
+/// For a stand-in for `rt`, in sh: what `rt` does to a crate that it proves, and to one that is unchanged. The
+/// crate is proved once the script has said so, or after five seconds.
+pub const PLAYS: &str = "\
+begins() { mkdir -p target/log; echo failed >target/log/$1.res; : >target/log/$1.say; }
+ends() { echo proved >target/log/$1.res; }
+unchanged() { mkdir -p target/log; echo failed >target/log/$1.res; ends $1; }
+said() {
+    turns=0
+    until grep -qF \"$1\" \"$root/stdout\" \"$root/stderr\" || [ $turns -eq 100 ]; do
+        sleep 0.05
+        turns=$((turns + 1))
+    done
+}
+proves() { begins $1; said \"$1 (\"; ends $1; }
+# Starts a process that takes no notice of signals, says that it runs, and waits for it.
+lingers() {
+    mktemp >/dev/null
+    begins $1
+    said \"$1 (\"
+    sh -c 'trap \"\" INT TERM HUP; exec sleep 30' &
+    echo $! >\"$root/lingering\"
+    mv \"$root/lingering\" \"$root/lingers\"
+    wait
+}
+";
 
 /// A program that is still open for writing, in a process that another test is just starting too, cannot
 /// be started. So one test runs at a time.
@@ -87,12 +114,6 @@ impl Place {
         fs::set_permissions(self.path(name), mode).expect("a file whose mode can be set");
     }
 
-    pub fn set_modified(&self, name: &str, time: SystemTime) {
-        let file = File::open(self.path(name));
-        let set = file.and_then(|file| file.set_modified(time));
-        set.expect("a file whose time can be set");
-    }
-
     /// A script to be run in the folder; its words are still to be given. Its standard input has nothing, if the
     /// redirection does not say else.
     pub fn command(&self, script: &str, redirection: &str) -> Command {
@@ -108,6 +129,66 @@ impl Place {
             .stderr(output("stderr"))
             .process_group(0);
         command
+    }
+
+    /// The same on a terminal, where a command of sh is given. It is none where the system has no command for that.
+    pub fn on_terminal(&self, command: &str, kind: &str) -> Option<Command> {
+        let path = env::var_os("PATH").expect("a PATH");
+        let mut found = env::split_paths(&path).map(|folder| folder.join("script"));
+        let Some(found) = found.find(|file| file.is_file()) else {
+            println!("NOT RUN: there is no command `script` here, which makes a terminal");
+            return None;
+        };
+        let found = found.to_str().expect("a path in UTF-8");
+        let mut on_terminal = self.command(found, "");
+        on_terminal.args(["-qec", command, "/dev/null"]);
+        on_terminal.env("SHELL", "/bin/sh").env("TERM", kind);
+        Some(on_terminal)
+    }
+
+    /// Sends a signal to a script and all that runs in its process group, once `lingers` waits. Whatever was started
+    /// ends, the repository's lock is free, and no temporary file is left.
+    pub fn is_ended_by(&self, signal: &str, command: &mut Command) {
+        self.write("temporary/file", b"");
+        let child = command.env("TMPDIR", self.path("temporary")).spawn();
+        let child = child.expect("a script that can be started");
+        let group = format!("-{}", child.id());
+        wait_until("the stand-in waits", || self.exists("lingers"));
+        let sent = Command::new("kill")
+            .args(["-s", signal, "--", &group])
+            .status();
+        assert!(sent.is_ok_and(|status| status.success()));
+        let ended = self.end(child);
+        assert_eq!(ended.status, None, "{signal}: {ended:?}");
+        assert_eq!(ended.stdout, "");
+        assert!(
+            ended.stderr.ends_with(")\n") && ended.stderr.lines().count() == 1,
+            "{ended:?}"
+        );
+        self.has_nothing_left();
+    }
+
+    /// The process that `lingers` started has ended, the repository's lock is free, and no temporary file is left.
+    pub fn has_nothing_left(&self) {
+        let process = fs::read_to_string(self.path("lingers")).expect("a number of a process");
+        self.remove("lingers");
+        wait_until("its child has ended", || !is_running(process.trim_end()));
+        let lock = || {
+            Command::new("flock")
+                .arg("-n")
+                .arg(self.path("a repository"))
+                .arg("true")
+                .status()
+        };
+        wait_until("the lock is free", || {
+            lock().is_ok_and(|status| status.success())
+        });
+        let files = || {
+            fs::read_dir(self.path("temporary"))
+                .expect("a folder")
+                .count()
+        };
+        wait_until("its files are gone", || files() == 1);
     }
 
     /// Waits for the end of a script; kills it, with all that it started, after the time it may take.
@@ -143,10 +224,69 @@ impl Ended {
         assert_eq!(found, due);
     }
 
+    /// Standard error, with a T for each time.
+    pub fn timeless(&self) -> String {
+        timeless(&self.stderr)
+    }
+
     /// An error: status 2, nothing on standard output, and a message that has this.
     pub fn is_error(&self, message: &str) {
         assert_eq!(self.status, Some(2), "{self:?}");
         assert_eq!(self.stdout, "", "{self:?}");
         assert!(self.stderr.contains(message), "no {message:?}: {self:?}");
     }
+}
+
+/// Whether a process is there and has not ended.
+fn is_running(process: &str) -> bool {
+    let stat = fs::read_to_string(format!("/proc/{process}/stat"));
+    stat.is_ok_and(|stat| !stat.contains(") Z "))
+}
+
+/// Waits for something that comes soon.
+fn wait_until(what: &str, holds: impl Fn() -> bool) {
+    let start = Instant::now();
+    while !holds() {
+        assert!(start.elapsed() < TIME, "it is not so that {what}");
+        thread::sleep(Duration::from_millis(1));
+    }
+}
+
+/// Of the signals INT, TERM and HUP those that are not ignored here: a script cannot heed one that is.
+pub fn signals() -> Vec<&'static str> {
+    let status = fs::read_to_string("/proc/self/status").expect("this process");
+    let ignored = status.lines().find_map(|line| line.strip_prefix("SigIgn:"));
+    let ignored = u64::from_str_radix(ignored.expect("signals").trim(), 16).expect("a number");
+    let all = [("INT", 2), ("TERM", 15), ("HUP", 1)].into_iter();
+    all.filter(|(_, number)| ignored >> (number - 1) & 1 == 0)
+        .map(|(name, _)| name)
+        .collect()
+}
+
+/// What was written to a terminal, with a T for each time: parts that each begin where the line does, without
+/// repetitions.
+pub fn drawn(output: &str) -> Vec<String> {
+    let mut parts: Vec<String> = timeless(output).split('\r').map(str::to_owned).collect();
+    parts.dedup();
+    parts
+}
+
+/// What is written over the line of a terminal, but for its beginning.
+pub fn over(line: &str) -> String {
+    format!("\x1b[?7l{line}\x1b[K\x1b[?7h")
+}
+
+/// A text with a T for each time that has passed, which is minutes, a colon and two digits of seconds.
+pub fn timeless(text: &str) -> String {
+    let parts: Vec<&str> = text.split(" so far").collect();
+    let (last, timed) = parts.split_last().expect("a last part");
+    let without_time = |part: &&str| {
+        let (before, time) = part.rsplit_once('(').expect("a bracket before a time");
+        let (minutes, seconds) = time.split_once(':').expect("a time");
+        let is_number = |text: &str| text.parse::<u8>().is_ok();
+        let is_time = is_number(minutes) && is_number(seconds) && seconds.len() == 2;
+        assert!(is_time, "{text}");
+        format!("{before}(T so far")
+    };
+    timed.iter().map(without_time).collect::<String>() + last
 }
