@@ -45,7 +45,8 @@ const CRATES_TEXT: &str =
     weighhare: buffer io model";
 
 /// The system's commands that the scripts and the stand-ins use.
-const COMMANDS: &str = "bash cat chmod cp df dirname find flock grep install ls mkdir mktemp mv readlink rm rmdir \
+const COMMANDS: &str =
+    "bash cat chmod cp df dirname find flock grep install ls mkdir mktemp mv readlink rm rmdir \
     sed sh sleep sort tail touch";
 
 /// What is said where the library is not proved.

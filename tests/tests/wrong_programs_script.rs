@@ -454,8 +454,8 @@ fn which_edits_share_a_check() {
 }
 
 #[test]
-fn at_most_twelve_share_a_check() {
-    let place = Place::new("twelve");
+fn all_functions_share_a_check() {
+    let place = Place::new("all_functions");
     let mut source = String::new();
     for name in 'a'..='m' {
         source += &format!("fn {name}() {{\n    {name}{name}\n}}\n");
@@ -465,12 +465,7 @@ fn at_most_twelve_share_a_check() {
     }
     place.put("crates/block/src/many.rt", &source);
     counts(&place.run(&["block"]), 14, 0);
-    let ran = [
-        "block:",
-        "block: a b c d e f g h i j k l",
-        "block: m",
-        "check: block",
-    ];
+    let ran = ["block:", "block: a b c d e f g h i j k l m", "check: block"];
     assert_eq!(place.ran(), ran);
 }
 
