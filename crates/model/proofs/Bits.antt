@@ -2,6 +2,7 @@
 use Prim.Native.Nat.{ℕ, zero, suc, _*_, _-_, _%_, _≤_}
 use native.Mathlib.Omega.{arith}
 use mathlib.Core.Path.{_≡_, refl}
+use mathlib.Core.Bool.{Bool, true, false, cond}
 use lib.Bits.{differ}
 
 pub data Bit : ℕ → Type 0 where
@@ -47,3 +48,17 @@ differ-back b0 b0 = refl
 differ-back b0 b1 = refl
 differ-back b1 b0 = refl
 differ-back b1 b1 = refl
+
+-- ---- 0 where something holds, else 1
+
+pub told-low : (b : Bool) → cond b 0 1 ≤ 1
+told-low true = omega arith
+told-low false = omega arith
+
+pub told-yes : (b : Bool) → _≡_ {A = ℕ} (cond b 0 1) 0 → b ≡ true
+told-yes true e = refl
+told-yes false e = absurd (omega (arith, e))
+
+pub told-no : (b : Bool) → (_≡_ {A = ℕ} (cond b 0 1) 0 → ⊥) → b ≡ false
+told-no true n = absurd (n refl)
+told-no false n = refl

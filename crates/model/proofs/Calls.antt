@@ -1,11 +1,11 @@
 -- The encryptions that are counted: how many they are, that none is missing from a gate's list, and that nothing is asked twice. Assumes nothing.
-use Prim.Native.Nat.{ℕ, _+_, _*_, _≤_}
+use Prim.Native.Nat.{ℕ, suc, _+_, _*_, _≤_}
 use native.Mathlib.Nat.{add-mul}
 use native.Mathlib.Omega.{arith}
 use mathlib.Core.Path.{_≡_, refl, sym, ap, ap₂, _∙_}
 use mathlib.Core.Logic.{⊎-elim}
 use mathlib.Core.Bool.{Bool, true, false, cond}
-use mathlib.Core.List.{List, [], _∷_, _++_, map, List·Memᴰ, List·Memᴰ·head, List·Memᴰ·tail, List·Memᴰ·cases-cons, List·Memᴰ·not-nil}
+use mathlib.Core.List.{List, [], _∷_, _++_, append-nil, map, List·Memᴰ, List·Memᴰ·head, List·Memᴰ·tail, List·Memᴰ·cases-cons, List·Memᴰ·not-nil}
 use lib.Dec.{eqb}
 use lib.Bits.{differ}
 use lib.ListN.{length}
@@ -13,17 +13,18 @@ use Rattle.model.specs.declared.Gate.{Gate}
 use Rattle.model.specs.declared.Wanted.{Wanted}
 use Rattle.model.specs.Circuit.{Kind, charged, free, refused, kindOf, charge, charges, circuitOf, outputs, wire, wires}
 use Rattle.model.specs.Aes.{Block, _⊕_, block, aes, fixedKey, π}
-use Rattle.model.specs.Tokens.{Garbling, colour, garblingOf, inputZeros}
+use Rattle.model.specs.Tokens.{Garbling, wantsHashes, colour, garblingOf, inputZeros}
 use Rattle.model.specs.Scheme.{Site, Scheme}
 use Rattle.model.specs.Gax.{keyBlock, dualKey, sealed, rowAt, openRow, gax}
 use Rattle.model.specs.Gaxr.{reducedZero, gaxr}
-use Rattle.model.specs.Hashes.{Call, answered, hashCallOf, hashOf}
+use Rattle.model.specs.Hashes.{Call, answered, hash, hashCallOf, hashOf}
 use Rattle.model.specs.HalfGates.{halfA, halfB, rowG, rowE, joined, halfZero, half}
 use Rattle.model.specs.Garbling.{schemeOf, own, siteOf, zeroStep}
-use Rattle.model.specs.Material.{materialLength}
+use Rattle.model.specs.Ending.{colours, hashes, endingOf}
+use Rattle.model.specs.Material.{joinBlocks}
 use Rattle.model.specs.Evaluation.{openStep, past, openGates}
-use Rattle.model.specs.Calls.{Ask, sealing, hashing, callFor, sealingAt, sealings, hashings, garbleAsks, garbledCalls, sealingHeld, hashingsHeld, evaluateAsks, openedCalls, garbleCallsAt, garbleCalls, evaluateCallsAt, evaluateCalls}
-use Rattle.model.specs.Operations.{made, garbleMade}
+use Rattle.model.specs.Calls.{Ask, sealing, hashing, callFor, sealingAt, sealings, hashings, garbleAsks, garbledCalls, sealingHeld, hashingsHeld, evaluateAsks, openedCalls, garbleCallsAt, garbleCalls, callsOf, outputCalls, evaluateCallsAt, evaluateCalls}
+use Rattle.model.specs.Operations.{fileLength, made, garbleMade}
 use Rattle.model.proofs.Bits.{Bit, b0, b1}
 use Rattle.model.proofs.Tokens.{Offset, colour-bit, colour-⊕}
 
@@ -75,10 +76,26 @@ module _ (γ : Garbling) where
   garble-calls-all (g ∷ gs) xs =
       omega (arith, garble-calls-at (kindOf (g .code)) (siteOf γ xs g), garble-calls-all gs (xs ++ (zeroStep γ xs g ∷ [])))
 
+-- "for 47 4A adds 2m calls" (02, job 12): the hashes that are stored are the answers of the calls counted, one each
+pub stored-answers : (k : ℕ) (X Y : Block) → hashes .stored k X Y ≡ joinBlocks (map answered (hashes .calls k X Y))
+unfolding hashes hash joinBlocks
+stored-answers k X Y = rw append-nil
+
+calls-many : (γ : Garbling) (b : Bool) (k : ℕ) (ws : List ℕ) → length (callsOf γ (endingOf b) k ws) ≡ cond b (2 * length ws) 0
+unfolding callsOf endingOf hashes colours
+calls-many γ true k [] = refl
+calls-many γ true k (w ∷ ws) = omega (arith, calls-many γ true (suc k) ws)
+calls-many γ false k [] = refl
+calls-many γ false k (w ∷ ws) = calls-many γ false (suc k) ws
+
+pub output-calls-2m : (γ : Garbling) → outputCalls γ ≡ cond (γ .hashed) (2 * length (γ .circuit .outputs)) 0
+unfolding outputCalls
+output-calls-2m γ = calls-many γ (γ .hashed) 1 (γ .circuit .outputs)
+
 pub garble-made-4p : (c seed : List ℕ) (want : Wanted)
-    → garbleMade c seed want ≡ made (materialLength (want .scheme) (outputs c) (charges (circuitOf c .gates))) (4 * charges (circuitOf c .gates))
+    → garbleMade c seed want ≡ made (fileLength c want) (4 * charges (circuitOf c .gates) + cond (wantsHashes want) (2 * length (circuitOf c .outputs)) 0)
 unfolding garbleMade
-garble-made-4p c seed want = rw (garble-calls-all (garblingOf c seed want) (circuitOf c .gates) (inputZeros (garblingOf c seed want)))
+garble-made-4p c seed want = rw (garble-calls-all (garblingOf c seed want) (circuitOf c .gates) (inputZeros (garblingOf c seed want)), output-calls-2m (garblingOf c seed want))
 
 module _ (k : ℕ) where
   pub evaluate-calls-at : (kind : Kind) (g : ℕ) (A B : Block) → evaluateCallsAt k kind g A B ≡ charge kind * askedHeld k

@@ -1,26 +1,25 @@
 -- From seed to output bit: encoded inputs hold their tokens, each gate keeps that, and what all wires hold decodes. Assumes nothing.
 use Prim.Native.Nat.{ℕ, suc, _+_, _-_, _≤_}
 use native.Mathlib.Omega.{arith}
-use mathlib.Core.Path.{_≡_, refl, sym, ap, ap₂, _∙_}
+use mathlib.Core.Path.{_≡_, sym, ap, _∙_}
 use mathlib.Core.List.{List, [], _∷_, _++_, append-assoc, map}
-use lib.ListN.{length, getD, drop, length-append, length-map}
-use lib.Seq.{drop-at}
+use lib.ListN.{length, getD, length-append}
 use Rattle.model.specs.declared.Gate.{Gate}
 use Rattle.model.specs.Bytes.{from, tabulate}
 use Rattle.model.specs.Circuit.{kindOf, wire, wires, gateValue, plainValues}
 use Rattle.model.specs.Aes.{Block, _⊕_, block}
-use Rattle.model.specs.Tokens.{Garbling, colour, offset, inputZeros, oneToken}
+use Rattle.model.specs.Tokens.{Garbling, offset, inputZeros, oneToken}
 use Rattle.model.specs.Garbling.{schemeOf, siteOf, zeroStep, zeroTokens, inputOnes}
-use Rattle.model.specs.Material.{header, recordOf, records, lastRecord, material}
-use Rattle.model.specs.Evaluation.{encode, openStep, openGates, evaluate, decodeWith}
+use Rattle.model.specs.Material.{header, recordOf, records, material}
+use Rattle.model.specs.Evaluation.{encode, openStep, openGates, evaluate}
 use Rattle.model.proofs.Bits.{Bit, b0, b1, bit-of}
 use Rattle.model.proofs.Circuits.{wires-length}
-use Rattle.model.proofs.Tokens.{Offset, offset-is, seedBlock-length, token-zero, token-one}
+use Rattle.model.proofs.Tokens.{offset-is, seedBlock-length, token-zero, token-one}
 use Rattle.model.proofs.Codes.{value-bit}
 use Rattle.model.proofs.Gates.{past-record, gate-evaluates}
 use Rattle.model.proofs.Lengths.{zero-step-wide}
-use Rattle.model.proofs.Accepted.{GateHolds, GatesHold, no-gate, gate, Within, none, more, CircuitHolds}
-use Rattle.model.proofs.Holds.{Holds, holds-colours, AllHold, done, next, zeros-as-many, tokens-as-many, hold-at, hold-snoc}
+use Rattle.model.proofs.Accepted.{GateHolds, GatesHold, no-gate, gate, CircuitHolds}
+use Rattle.model.proofs.Holds.{Holds, AllHold, done, next, zeros-as-many, tokens-as-many, hold-at, hold-snoc}
 
 -- ---- encoding
 
@@ -70,30 +69,9 @@ module _ (γ : Garbling) where
       rw (append-assoc, past-record γ (kindOf (g .code)) (siteOf γ xs g) m)
       (gates-keep f (hold-snoc l (gate-keeps l g (rw e at h) m)) (simp length-append (omega arith)) rest)
 
--- ---- decoding
-
--- the colours of the tokens held and of the zero tokens give the truth values
-pub decode-holds : {R : Block} → Offset R → {vs : List ℕ} {xs ts : List Block} → AllHold R vs xs ts → {ws : List ℕ} → Within (length vs) ws
-    → decodeWith (map (λ w. wire (block 0) ts w) ws) (map (λ w. colour (wire (block 0) xs w)) ws) ≡ map (λ w. wire 0 vs w) ws
-unfolding decodeWith
-decode-holds o l none = refl
-decode-holds o l (more {w = w} h₁ h₂ t) = ap₂ _∷_ (holds-colours o (hold-at l (w - 1) (omega arith))) (decode-holds o l t)
-
 -- ---- the whole chain, of a circuit that keeps its limits
 
-last-at : (p q : List ℕ) (m : ℕ) → length q ≡ m → drop (length (p ++ q) - m) (p ++ q) ≡ q
-last-at p q m h = drop-at p q (length (p ++ q) - m) (omega (arith, length-append p q))
-
 module _ (γ : Garbling) where
-  -- the material's last bytes are the colours of the outputs' zero tokens
-  pub material-ends : drop (length (material γ) - length (γ .circuit .outputs)) (material γ)
-      ≡ map (λ w. colour (wire (block 0) (zeroTokens γ) w)) (γ .circuit .outputs)
-  unfolding material lastRecord
-  material-ends =
-      let front : List ℕ = header γ ++ records γ (γ .circuit .gates) (inputZeros γ) in
-      rw (← append-assoc front (0x47 ∷ 0x44 ∷ []))
-      (last-at (front ++ (0x47 ∷ 0x44 ∷ [])) _ (length (γ .circuit .outputs)) (length-map (γ .circuit .outputs) _))
-
   module _ (values : List ℕ) (many : length values ≡ γ .circuit .n) (bits : (i : ℕ) → getD values i 0 ≤ 1) where
     pub inputs-hold : AllHold (offset γ) values (inputZeros γ) (encode values (inputZeros γ) (inputOnes γ))
     unfolding inputZeros inputOnes oneToken

@@ -1,33 +1,38 @@
 -- Demand 3 holds: on every wire of every accepted circuit, from seed to output bit, in the bytes that the operations hand on. Assumes nothing.
-use Prim.Native.Nat.{ℕ, _+_, _*_, _-_, _≤_}
+use Prim.Native.Nat.{ℕ, _+_, _*_, _-_, _≤_, _<_}
 use native.Mathlib.Omega.{arith}
-use mathlib.Core.Path.{_≡_, sym, _∙_}
+use mathlib.Core.Path.{_≡_, refl, sym, _∙_}
+use mathlib.Core.Bool.{true}
 use mathlib.Core.List.{List, [], _∷_, _++_, map, append-assoc, append-nil}
-use borrow.Author.Tests.{le-ltb, le-leb, eq-eqb}
-use lib.ListN.{length, take}
+use borrow.Author.Tests.{le-ltb, le-leb, eq-eqb, not-false}
+use lib.ListN.{length, getD, take}
 use lib.Seq.{take-at, length-take-le}
 use Rattle.model.specs.declared.Gate.{Gate}
 use Rattle.model.specs.declared.Wanted.{Wanted}
-use Rattle.model.specs.Circuit.{inputs, outputs, gates, gateAt, circuitOf, wire, wires, plainValues}
+use Rattle.model.specs.Circuit.{Circuit, inputs, outputs, gates, gateAt, circuitOf, wire, wires, plainValues}
 use Rattle.model.specs.Aes.{Block, block}
-use Rattle.model.specs.Tokens.{Garbling, offset, inputZeros}
+use Rattle.model.specs.Tokens.{Garbling, offset, inputZeros, oneToken}
 use Rattle.model.specs.Garbling.{zeroStep, zeroTokens, inputOnes}
-use Rattle.model.specs.Material.{joinBlocks, material}
-use Rattle.model.specs.Evaluation.{encode, evaluate, decode, encodeBytes, evaluateBytes, decodeBytes, tokenAt, outputTokens}
-use Rattle.model.specs.Demand3.{Allowed, chained, chainMaterial, chainZeros, chainOnes, chainInputs, chainTokens, chainBits, carries, distanceAt, Demand3, OnlyRoom}
-use Rattle.model.specs.Refusals.{fine, refuse, _then_, seedVerdict, valueVerdict, bitsVerdict, valuesVerdict, tokensVerdict, schemeVerdict, materialVerdict}
+use Rattle.model.specs.Ending.{hashes, endingOf}
+use Rattle.model.specs.Material.{joinBlocks, hashed, zeroOf, material}
+use Rattle.model.specs.Evaluation.{cut, encode, evaluate, storedAt, decode, encodeBytes, evaluateBytes, decodeBytes, tokenAt, outputTokens}
+use Rattle.model.specs.Demand3.{Allowed, chained, chainMaterial, chainZeros, chainOnes, chainInputs, chainTokens, chainBits, carries, distanceAt, Demand3, OnlyRoom, DecodesByHash}
+use Rattle.model.specs.Refusals.{fine, refuse, _then_, seedVerdict, valueVerdict, bitsVerdict, valuesVerdict, tokensVerdict, schemeVerdict, materialVerdict, tokenVerdict, unknownVerdict, madeFor, clashAt, clashVerdict}
 use Rattle.model.specs.Operations.{garbleVerdict, encodeVerdict, evaluateVerdict, outputTokensVerdict, decodeVerdict}
-use Rattle.model.proofs.Lists.{tabulate-length}
+use Rattle.model.proofs.Lists.{from-cong, entry, map-elements, tabulate-length}
+use Rattle.model.proofs.Bits.{told-yes}
 use Rattle.model.proofs.Outputs.{outputs-many}
 use Rattle.model.proofs.Tokens.{offset-is}
 use Rattle.model.proofs.Blocks as B
 use Rattle.model.proofs.Blocks.{Blocks, blocks-wide, join-length, join-append, cut-join, token-at-wire}
-use Rattle.model.proofs.Accepted.{Within, none, more, map-within, CircuitHolds, accepted-circuit, accepted-header}
-use Rattle.model.proofs.Lengths.{input-zeros-blocks, input-ones-blocks, zero-tokens-blocks}
+use Rattle.model.proofs.Accepted.{Within, none, more, map-within, CircuitHolds, accepted-circuit, accepted-header, accepted-output}
+use Rattle.model.proofs.Lengths.{input-zeros-blocks, input-ones-blocks, zero-tokens-blocks, hashed-is}
 use Rattle.model.proofs.Holds.{Holds, holds-distances, AllHold, hold-at, tokens-blocks}
-use Rattle.model.proofs.Verdicts.{first-all}
+use Rattle.model.proofs.Verdicts.{then-nothing, first-all, first-each, refuse-fine}
 use Rattle.model.proofs.OwnMaterial.{own-material}
-use Rattle.model.proofs.Chain.{decode-holds, material-ends, inputs-hold, wires-hold, plain-length}
+use Rattle.model.proofs.Endings.{right}
+use Rattle.model.proofs.Stored.{stored-is}
+use Rattle.model.proofs.Chain.{inputs-hold, wires-hold, plain-length}
 
 -- ---- the tokens of some wires, from bytes
 
@@ -53,6 +58,9 @@ unfolding zeroTokens
 zero-tokens-begin γ =
     let r = wires-begin (zeroStep γ) (γ .circuit .gates) (inputZeros γ) in
     rw (r .1, join-append) (take-at (joinBlocks (inputZeros γ)) _ (16 * γ .circuit .n) (join-length (input-zeros-blocks γ)))
+
+mapped-at : {A : Type 0} (f : ℕ → A) (d : A) (ws : List ℕ) (i : ℕ) → i < length ws → getD (map f ws) i d ≡ f (getD ws i 0)
+mapped-at f d ws i h = rw (map-elements f (length ws) ws refl) (entry d (length ws) (λ i. f (getD ws i 0)) i h)
 
 module _ (c seed : List ℕ) (want : Wanted) (values : List ℕ) (allowed : Allowed c seed want values) where
   abbrev γ : Garbling
@@ -135,12 +143,51 @@ module _ (c seed : List ℕ) (want : Wanted) (values : List ℕ) (allowed : Allo
   unfolding carries
   wire-holds w h l = rw (left-at w h l, zero-at w h l) (hold-at all-held (w - 1) (omega (arith, as-many, wires-many)))
 
-  bits-decoded : chainBits c seed want values ≡ map (carries c values) (circuitOf c .outputs)
-  unfolding chainBits decodeBytes outputTokens decode chainMaterial carries
-  bits-decoded =
+  -- ---- output i, from 0
+
+  held-at : (w : ℕ) → 1 ≤ w → w ≤ circuitOf c .n + length (circuitOf c .gates) → Holds (offset γ) (carries c values w) (zeroOf γ w) (wire (block 0) left w)
+  unfolding carries zeroOf
+  held-at w h l = hold-at all-held (w - 1) (omega (arith, as-many))
+
+  -- the tokens of the outputs
+  abbrev ends : List Block
+  ends = map (λ w. wire (block 0) left w) (circuitOf c .outputs)
+
+  module _ (i : ℕ) (more : i < length (circuitOf c .outputs)) where
+    abbrev output : ℕ
+    output = getD (circuitOf c .outputs) i 0
+
+    output-held : Holds (offset γ) (carries c values output) (zeroOf γ output) (getD ends i (block 0))
+    output-held =
+        let a = accepted-output c i (allowed .accepted) (rw (outputs-many c) at more) in
+        rw (mapped-at (λ w. wire (block 0) left w) (block 0) (circuitOf c .outputs) i more) (held-at output (a .low) (rw wires-many (a .high)))
+
+    bit-decoded : clashVerdict γ ≡ fine → endingOf (γ .hashed) .bit (i + 1) (getD ends i (block 0)) (storedAt (circuitOf c) (material γ) i) ≡ carries c values output
+    unfolding clashVerdict clashAt madeFor oneToken
+    bit-decoded no-clash =
+        let apart = refuse-fine _ _ _ (first-each _ _ i no-clash more) in
+        rw (stored-is γ i more) (right (γ .hashed) .tells (offset-is γ) output-held (i + 1) apart)
+
+    token-known : tokenVerdict (circuitOf c) ends (material γ) i ≡ fine
+    unfolding tokenVerdict madeFor oneToken refuse
+    token-known = rw (hashed-is γ, stored-is γ i more, right (γ .hashed) .knows (offset-is γ) output-held (i + 1))
+
+  ends-are : cut (length (circuitOf c .outputs)) (outputTokens (circuitOf c) (chainTokens c seed want values)) ≡ ends
+  unfolding outputTokens
+  ends-are =
       let within = holds .outputs-within in
-      rw (tokens-are, tokens-at left-blocks within, cut-join (wires-blocks left-blocks within), material-ends γ)
-      (decode-holds (offset-is γ) all-held {ws = circuitOf c .outputs} (rw as-many within))
+      rw (tokens-are, tokens-at left-blocks within) (cut-join (wires-blocks left-blocks within))
+
+  bits-decoded : clashVerdict γ ≡ fine → chainBits c seed want values ≡ map (carries c values) (circuitOf c .outputs)
+  unfolding chainBits decodeBytes decode chainMaterial
+  bits-decoded no-clash =
+      rw (ends-are, hashed-is γ)
+      (from-cong 0 (length (circuitOf c .outputs)) _ _ (λ i l. bit-decoded i (omega (arith, l)) no-clash)
+      ∙ sym (map-elements (carries c values) (length (circuitOf c .outputs)) (circuitOf c .outputs) refl))
+
+  all-known : unknownVerdict (circuitOf c) (cut (length (circuitOf c .outputs)) (outputTokens (circuitOf c) (chainTokens c seed want values))) (chainMaterial c seed want values) ≡ fine
+  unfolding chainMaterial unknownVerdict
+  all-known = rw ends-are (first-all _ (length (circuitOf c .outputs)) token-known)
 
   -- ---- nothing but 19 refuses what is handed on
 
@@ -167,12 +214,12 @@ module _ (c seed : List ℕ) (want : Wanted) (values : List ℕ) (allowed : Allo
   unfolding garbleVerdict encodeVerdict evaluateVerdict outputTokensVerdict decodeVerdict seedVerdict valuesVerdict schemeVerdict tokensVerdict refuse _then_
   only-room = record {
     garble-room = λ km kz ko.
-        simp (allowed .accepted, eq-eqb _ _ (allowed .seed-bytes), le-leb _ _ (allowed .known .low), le-leb _ _ (allowed .known .high));
+        simp (allowed .accepted, eq-eqb _ _ (allowed .seed-bytes), allowed .marked, le-leb _ _ (allowed .known .low), le-leb _ _ (allowed .known .high));
     encode-room = λ k.
         simp (allowed .accepted, eq-eqb _ _ (allowed .one-each), bits-fine, eq-eqb _ _ zeros-front, eq-eqb _ _ ones-long);
     evaluate-room = λ k. simp (allowed .accepted, eq-eqb _ _ inputs-long, material-fine);
     output-tokens-room = λ k. simp (allowed .accepted, eq-eqb _ _ tokens-long);
-    decode-room = λ k. simp (allowed .accepted, eq-eqb _ _ outputs-long, material-fine);
+    decode-room = λ k. simp (allowed .accepted, eq-eqb _ _ outputs-long, material-fine, all-known, then-nothing);
   }
 
 -- The theorem.
@@ -185,3 +232,12 @@ demand-3 c seed want values allowed =
       at-one = λ w h l. holds-distances R (wire-holds c seed want values allowed w h l) .offset-if-1;
       decoded = bits-decoded c seed want values allowed;
     }
+
+-- ---- any tokens, over any material that ends in hashes
+
+pub decodes-by-hash : (c : Circuit) (ts : List Block) (s : List ℕ) → hashed s ≡ true → unknownVerdict c ts s ≡ fine → DecodesByHash c ts s
+unfolding unknownVerdict tokenVerdict decode
+decodes-by-hash c ts s e known = record {
+  one-agrees = λ i h. unfold endingOf hashes in not-false _ (rw e at (refuse-fine _ _ _ (first-each _ _ i known h)));
+  first-is-0 = λ i h. unfold endingOf hashes in rw (entry {A = ℕ} 0 (length (c .outputs)) _ i h, e) (told-yes _, λ t. rw t);
+}

@@ -1,16 +1,21 @@
 -- The table of examples holds of the definitions. Assumes nothing.
 use mathlib.Core.Path.{refl}
-use Rattle.model.specs.Bytes.{be16, number, bytesOf}
+use Rattle.model.specs.Bytes.{be16, number, bytesOf, equalBytes}
 use Rattle.model.specs.Circuit.{value, kinds, kindOf, charges, markAt, inputs, outputs, gates, named, gateAt, outputAt, lastWires, circuitOf, mostOutputs, sizesHold, circuitLength, operandsHold, wires, gateValue, plainValues}
 use Rattle.model.specs.Aes.{_⊕_, block, fixedKey, times, xtime, mulBits, gmul, squares, inverse, bit, affineBit, affineBits, sBox, double, quadruple}
 use Rattle.model.specs.Tokens.{runBlock}
 use Rattle.model.specs.Hashes.{hashBlock, hashCall, sigma, rekeyedCall}
-use Rattle.model.specs.Refusals.{refuse, _then_, firstOf, headVerdict, gateVerdict, recordVerdict, outputVerdict, outputsVerdict, circuitVerdict, schemeVerdict}
+use Rattle.model.specs.HalfGates.{half}
+use Rattle.model.specs.Scheme.{recordLength}
+use Rattle.model.specs.Garbling.{schemeOf}
+use Rattle.model.specs.Ending.{outputTweak, firstHash, secondHash, colours, hashes, endingOf}
+use Rattle.model.specs.Material.{hashed, lastBytes, materialLength}
+use Rattle.model.specs.Refusals.{refuse, _then_, firstOf, headVerdict, gateVerdict, recordVerdict, outputVerdict, outputsVerdict, circuitVerdict, schemeVerdict, markVerdict}
 use Rattle.model.specs.Operations.{sizesOf}
 use Rattle.model.specs.Examples.{Examples}
 
 pub examples : Examples
-unfolding be16 number bytesOf value kinds kindOf charges markAt inputs outputs gates named gateAt outputAt lastWires circuitOf mostOutputs sizesHold circuitLength operandsHold wires gateValue plainValues _⊕_ block fixedKey times xtime mulBits gmul squares inverse bit affineBit affineBits sBox double quadruple runBlock hashBlock hashCall sigma rekeyedCall refuse _then_ firstOf headVerdict gateVerdict recordVerdict outputVerdict outputsVerdict circuitVerdict schemeVerdict sizesOf
+unfolding be16 number bytesOf value kinds kindOf charges markAt inputs outputs gates named gateAt outputAt lastWires circuitOf mostOutputs sizesHold circuitLength operandsHold wires gateValue plainValues _⊕_ block fixedKey times xtime mulBits gmul squares inverse bit affineBit affineBits sBox double quadruple runBlock hashBlock hashCall sigma rekeyedCall refuse _then_ firstOf headVerdict gateVerdict recordVerdict outputVerdict outputsVerdict circuitVerdict schemeVerdict markVerdict sizesOf equalBytes outputTweak firstHash secondHash colours hashes endingOf half schemeOf recordLength hashed lastBytes materialLength
 examples = record {
   P1 = refl;
   P2 = refl;
@@ -55,4 +60,14 @@ examples = record {
   first-output = refl;
   more-than-wires = refl;
   named-short = refl;
+  first-tweak = refl;
+  last-tweak = refl;
+  with-colours = refl;
+  with-hashes = refl;
+  mark-of-colours = refl;
+  mark-of-hashes = refl;
+  mark-of-none = refl;
+  hashed-file = refl;
+  equal-pair = refl;
+  unequal-pair = refl;
 }

@@ -20,10 +20,11 @@ use Rattle.model.specs.Gaxr.{gaxr}
 use Rattle.model.specs.Hashes.{answered, hashBlock, hashCall, hashCallOf, hashOf}
 use Rattle.model.specs.HalfGates.{halfA, halfB, rowG, rowE, halfZero, half}
 use Rattle.model.specs.Garbling.{schemeOf, siteOf, zeroAt, zeroStep, zeroTokens, inputOnes}
-use Rattle.model.specs.Material.{recordOf, records, lastRecord, material}
+use Rattle.model.specs.Material.{zeroOf, recordOf, records, material}
 use Rattle.model.specs.Evaluation.{openAt, openStep, past, openGates, evaluate}
 use Rattle.model.specs.Refusals.{fine, isRefused, _then_, gateVerdict, recordVerdict, outputsVerdict, circuitVerdict, circuitSizes, schemeVerdict, rowStart, rowVerdict, materialVerdict}
-use Rattle.model.specs.Kept.{LeftRefused, ZeroPassedOn, TokenPassedOn, PassedOn, kinds01, kind01, kindValue, headVerdict01, chargesBy, gateValueBy, gateVerdictBy, recordVerdictBy, circuitVerdictBy, rowVerdictBy, materialVerdictBy, offsetBy, inputZerosBy, inputOnesBy, siteBy, halfABy, halfBBy, rowGBy, rowEBy, halfBy, schemeBy, zeroAtBy, zeroStepBy, zeroTokensBy, recordOfBy, recordsBy, lastRecordBy, materialBy, openStepBy, openGatesBy, evaluateBy, SameBytes, seedBlock01, RunZero, hash01, scheme01, schemeVerdict01, OldSchemes}
+use Rattle.model.specs.Kept.{LeftRefused, ZeroPassedOn, TokenPassedOn, PassedOn, kinds01, kind01, kindValue, headVerdict01, chargesBy, gateValueBy, gateVerdictBy, recordVerdictBy, circuitVerdictBy, rowVerdictBy, materialVerdictBy, offsetBy, inputZerosBy, inputOnesBy, siteBy, halfABy, halfBBy, rowGBy, rowEBy, halfBy, schemeBy, zeroAtBy, zeroStepBy, zeroTokensBy, recordOfBy, recordsBy, headerBy, lastRecordBy, materialBy, openStepBy, openGatesBy, evaluateBy, SameBytes, seedBlock01, RunZero, hash01, scheme01, schemeVerdict01, OldSchemes, materialVerdict01, OldEnding}
+use Rattle.model.proofs.OldEnding.{colours-material, no-clash, verdict-same, made-same, file-same, last-same, known-all, bits-same}
 use Rattle.model.proofs.Bits.{Bit, b0, b1, bit-of, bit-small}
 use Rattle.model.proofs.Codes.{value-bit, past-table, in-table}
 use Rattle.model.proofs.Number.{leading-zeros}
@@ -321,9 +322,10 @@ module _ (K : ℕ → Kind) (B : ℕ → Block) (γ : Garbling) (top : ℕ) (sam
       unfolding zeroTokens zeroTokensBy
       zero-tokens-same = rw inputs-same (zeros-same (γ .circuit .gates) (inputZeros γ) within-top h)
 
-      material-same : material γ ≡ materialBy K B γ
-      unfolding material materialBy lastRecord lastRecordBy
-      material-same = rw (inputs-same, records-same (γ .circuit .gates) (inputZeros γ) within-top h, zero-tokens-same)
+      pub material-same : γ .hashed ≡ false → material γ ≡ materialBy K B γ
+      unfolding materialBy headerBy lastRecordBy zeroOf
+      material-same e =
+          colours-material γ e ∙ rw (inputs-same, records-same (γ .circuit .gates) (inputZeros γ) within-top h, zero-tokens-same)
 
 -- ---- tokens evaluated
 
@@ -456,4 +458,18 @@ unfolding schemeOf scheme01 schemeVerdict schemeVerdict01
 old-schemes = record {
   steps = λ k n. rw (old-hash k n);
   refused-too = λ k n. rw (at-most k n);
+}
+
+-- ==== Job 12
+
+pub old-ending : OldEnding
+unfolding materialVerdict materialVerdict01
+old-ending = record {
+  garble-refusals = λ c seed want km kz ko e. verdict-same want e c seed km kz ko;
+  returned = λ c seed want e. made-same want e c seed;
+  no-clash = no-clash;
+  rows = λ γ. material-same kindOf (seedBlock γ) γ (wiresOf γ) (λ i l. refl) (omega arith) (own-kinds (γ .circuit .gates));
+  refusals = λ c s e. rw (file-same s e (circuitSizes c), last-same s e);
+  all-known = λ c ts s e. known-all s e c ts;
+  bits = bits-same;
 }

@@ -1,18 +1,21 @@
 -- As many tokens as wires, each of 16 bytes, and material as long as document 01 says. Assumes nothing.
 use Prim.Native.Nat.{ℕ, zero, suc, _+_, _*_}
-use native.Mathlib.Nat.{add-zero, add-suc, suc-add}
+use native.Mathlib.Nat.{add-zero, add-suc, suc-add, add-comm, mul-zero, mul-suc}
 use native.Mathlib.Omega.{arith}
-use mathlib.Core.Path.{_≡_, refl}
+use mathlib.Core.Path.{_≡_, refl, sym, _∙_}
+use mathlib.Core.Bool.{Bool, true, false, _&&_}
 use mathlib.Core.List.{List, [], _∷_, _++_}
-use lib.ListN.{length, length-append, length-map}
+use lib.Dec.{eqb}
+use lib.ListN.{length, length-append}
 use Rattle.model.specs.declared.Gate.{Gate}
 use Rattle.model.specs.Bytes.{from}
-use Rattle.model.specs.Circuit.{Kind, charged, free, refused, kindOf, charge, charges, wires}
+use Rattle.model.specs.Circuit.{Kind, charged, free, refused, kindOf, charge, charges, markAt, wires}
 use Rattle.model.specs.Aes.{Block}
 use Rattle.model.specs.Tokens.{Garbling, inputZeros, oneToken}
 use Rattle.model.specs.Scheme.{Site, Scheme, recordLength}
 use Rattle.model.specs.Garbling.{schemeOf, siteOf, zeroStep, zeroTokens, inputOnes}
-use Rattle.model.specs.Material.{materialLength, header, recordOf, records, lastRecord, material}
+use Rattle.model.specs.Ending.{Ending, colours, hashes, endingOf}
+use Rattle.model.specs.Material.{materialLength, hashed, lastBytes, header, recordOf, records, zeroOf, storedOf, lastRecord, material}
 use Rattle.model.specs.Evaluation.{openStep, past, openGates}
 use Rattle.model.proofs.Xor.{⊕-length}
 use Rattle.model.proofs.Tokens.{seedBlock-length}
@@ -20,6 +23,7 @@ use Rattle.model.proofs.Blocks.{Blocks, none, more, blocks-snoc, blocks
 use Rattle.model.proofs.Sound.{Sound}
 use Rattle.model.proofs.Schemes.{scheme-sound}
 use Rattle.model.proofs.Gates.{zero-at-wide, open-at-wide}
+use Rattle.model.proofs.Endings.{Right, right}
 
 -- ---- evaluation's tokens, over anyone's rows
 
@@ -36,6 +40,9 @@ opened-blocks S sound (g ∷ gs) bs {k} r =
 pub from-blocks : (f : ℕ → Block) → ((i : ℕ) → length (f i) ≡ 16) → (i n : ℕ) → Blocks n (from i n f)
 from-blocks f h i zero = none
 from-blocks f h i (suc n) = more (h i) (from-blocks f h (suc i) n)
+
+one-more : (a n : ℕ) → a + a * n ≡ a * suc n
+one-more a n = sym (mul-suc a n ∙ add-comm (a * n) a)
 
 module _ (γ : Garbling) where
   pub input-zeros-blocks : Blocks (γ .circuit .n) (inputZeros γ)
@@ -79,10 +86,26 @@ module _ (γ : Garbling) where
   records-length (g ∷ gs) xs =
       simp (length-append, record-length, records-length gs (xs ++ (zeroStep γ xs g ∷ []))) (omega arith)
 
-  pub last-length : length (lastRecord γ) ≡ 2 + length (γ .circuit .outputs)
-  unfolding lastRecord
-  last-length = simp length-map (omega arith)
+  pub stored-length : {E : Ending} → Right E → (k : ℕ) (ws : List ℕ) → length (storedOf γ E k ws) ≡ E .size * length ws
+  unfolding storedOf
+  stored-length {E} r k [] = sym (mul-zero (E .size))
+  stored-length {E} r k (w ∷ ws) =
+      length-append (E .stored k (zeroOf γ w) (oneToken γ (zeroOf γ w))) (storedOf γ E (suc k) ws)
+      ∙ rw (r .long k (zeroOf γ w) (oneToken γ (zeroOf γ w)), stored-length r (suc k) ws) (one-more (E .size) (length ws))
 
-  pub material-length : length (material γ) ≡ materialLength (γ .scheme) (length (γ .circuit .outputs)) (charges (γ .circuit .gates))
+  pub last-length : length (lastRecord γ) ≡ 2 + lastBytes (γ .hashed) (length (γ .circuit .outputs))
+  unfolding lastRecord lastBytes
+  last-length = rw (stored-length (right (γ .hashed)) 1 (γ .circuit .outputs)) (omega arith)
+
+  pub material-length : length (material γ) ≡ materialLength (γ .scheme) (lastBytes (γ .hashed) (length (γ .circuit .outputs))) (charges (γ .circuit .gates))
   unfolding material materialLength
   material-length = simp (length-append, header-length, records-length, last-length) (omega arith)
+
+  -- its mark is that of what it ends in
+  pub hashed-is : hashed (material γ) ≡ γ .hashed
+  unfolding material header hashed markAt endingOf colours hashes
+  hashed-is = go (γ .hashed)
+    where
+      go : (b : Bool) → (eqb 0x47 0x47 && eqb (endingOf b .headerMark) 0x4A) ≡ b
+      go true = refl
+      go false = refl

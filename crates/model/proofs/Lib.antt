@@ -2,6 +2,7 @@
 pub mod Lists
 pub mod Table
 pub mod Buffers
+pub mod Equal
 pub mod Number
 pub mod Decimal
 pub mod Xor
@@ -32,7 +33,9 @@ pub mod Gates
 pub mod Outputs
 pub mod Accepted
 pub mod Holds
+pub mod Endings
 pub mod Lengths
+pub mod Stored
 pub mod Filling
 pub mod OneMore
 pub mod Places
@@ -42,6 +45,7 @@ pub mod Records
 pub mod Made
 pub mod Demand3
 mod OldMark
+pub mod OldEnding
 pub mod Kept
 mod StandsFor
 pub mod Runs

@@ -1,25 +1,16 @@
 -- A circuit of another mark than 43 49 is refused as it was, and is the circuit that it was. Assumes nothing.
 use Prim.Native.Nat.{ℕ, _-_}
 use mathlib.Core.Path.{_≡_, refl}
-use mathlib.Core.Bool.{Bool, true, false, _||_}
+use mathlib.Core.Bool.{false}
 use mathlib.Core.List.{List}
 use borrow.Author.Tests.{eqb-true, not-false}
 use lib.ListN.{getD}
 use Rattle.model.specs.Circuit.{circuitOf, kindOf, markAt, inputs, gates, named, mostOutputs, sizesHold, circuitLength}
-use Rattle.model.specs.Refusals.{Verdict, fine, refused, _then_, headVerdict, gateVerdict, recordVerdict, outputsVerdict, circuitVerdict}
+use Rattle.model.specs.Refusals.{fine, refused, _then_, headVerdict, gateVerdict, recordVerdict, outputsVerdict, circuitVerdict}
 use Rattle.model.specs.Kept.{sizesHold01, headVerdict01, gateVerdictBy, recordVerdictBy, circuitVerdictBy, OldMark}
 use Rattle.model.proofs.Accepted.{accepted-header}
 use Rattle.model.proofs.Outputs as O
-use Rattle.model.proofs.Verdicts.{then-fine, refuse-fine, and-both, first-same}
-
-or-false : (b : Bool) → (b || false) ≡ b
-or-false true = refl
-or-false false = refl
-
-then-nothing : (v : Verdict) → (v then fine) ≡ v
-unfolding _then_
-then-nothing fine = refl
-then-nothing (refused i x) = refl
+use Rattle.model.proofs.Verdicts.{then-fine, refuse-fine, and-both, first-same, or-false, then-nothing}
 
 -- mark 43 48 is another
 pub not-named : (s : List ℕ) → headVerdict01 s ≡ fine → named s ≡ false

@@ -2,23 +2,27 @@
 use Prim.Native.Nat.{ℕ, zero, suc, _+_, _*_, _/_, _%_, _≤_, _<_}
 use native.Mathlib.Omega.{arith}
 use mathlib.Core.Path.{_≡_, refl, sym, ap, _∙_}
-use mathlib.Core.List.{List, [], _∷_, _++_, map, append-assoc}
-use mathlib.Core.Bool.{true, not, _&&_}
+use mathlib.Core.List.{List, [], _∷_, _++_, append-assoc}
+use mathlib.Core.Bool.{Bool, true, false, not, _&&_, _||_}
 use borrow.Author.Tests.{le-ltb, le-leb, eq-eqb}
+use lib.Dec.{eqb}
 use lib.ListN.{length, getD, take, drop, length-append}
 use lib.Seq.{split-at, getD-append-seam, getD-append-add, length-take-le, take-length}
 use Rattle.model.specs.declared.Gate.{Gate}
 use Rattle.model.specs.Bytes.{be16, two}
-use Rattle.model.specs.Circuit.{Kind, charged, free, refused, kindOf, charges, codeAt, markAt, gateWire, wire, wires}
-use Rattle.model.specs.Aes.{Block, block}
-use Rattle.model.specs.Tokens.{Garbling, colour, inputZeros}
-use Rattle.model.specs.Garbling.{Known, siteOf, zeroStep, zeroTokens}
-use Rattle.model.specs.Material.{lastStart, materialLength, header, recordOf, records, lastRecord, material}
-use Rattle.model.specs.Refusals.{fine, refuse, _then_, isCharged, schemeVerdict, circuitSizes, sameSizes, rowStart, fileVerdict, rowRecordAt, rowVerdict, lastByteVerdict, lastVerdict, materialVerdict}
+use Rattle.model.specs.Circuit.{Kind, charged, free, refused, kindOf, charges, codeAt, markAt, gateWire, wires}
+use Rattle.model.specs.Aes.{Block}
+use Rattle.model.specs.Tokens.{Garbling, inputZeros}
+use Rattle.model.specs.Garbling.{Known, siteOf, zeroStep}
+use Rattle.model.specs.Ending.{colours, hashes, endingOf}
+use Rattle.model.specs.Material.{lastStart, materialLength, lastBytes, header, recordOf, records, storedOf, lastRecord, material}
+use Rattle.model.specs.Refusals.{fine, refuse, _then_, isCharged, schemeVerdict, circuitSizes, sameSizes, rowStart, fileVerdict, rowRecordAt, rowVerdict, storedVerdict, lastVerdict, materialVerdict, madeFor}
 use Rattle.model.proofs.Verdicts.{first-all}
 use Rattle.model.proofs.Circuits.{wires-length}
 use Rattle.model.proofs.Blocks.{blocks-length}
-use Rattle.model.proofs.Lengths.{input-zeros-blocks, header-length, records-length, material-length}
+use Rattle.model.proofs.Endings.{right}
+use Rattle.model.proofs.Lengths.{input-zeros-blocks, header-length, records-length, material-length, hashed-is}
+use Rattle.model.proofs.Stored.{stored-after}
 
 -- ---- bytes read back
 
@@ -44,17 +48,6 @@ unfolding records wires
 records-append γ [] ks xs = refl
 records-append γ (h ∷ hs) ks xs = rw (records-append γ hs ks (xs ++ (zeroStep γ xs h ∷ [])), append-assoc)
 
--- ---- each of some colours is 0 or 1
-
-colour-low : (t : Block) → colour t ≤ 1
-unfolding colour
-colour-low t = omega arith
-
-bits-low : (f : ℕ → ℕ) → ((w : ℕ) → f w ≤ 1) → (ws : List ℕ) (i : ℕ) → getD (map f ws) i 0 ≤ 1
-bits-low f h [] i = omega arith
-bits-low f h (w ∷ ws) zero = h w
-bits-low f h (w ∷ ws) (suc i) = bits-low f h ws i
-
 module _ (γ : Garbling) (known : Known (γ .scheme)) (few : γ .circuit .n + length (γ .circuit .gates) ≤ 65535)
     (few-outputs : length (γ .circuit .outputs) ≤ 65535) where
   abbrev gs : List Gate
@@ -69,9 +62,13 @@ module _ (γ : Garbling) (known : Known (γ .scheme)) (few : γ .circuit .n + le
 
   -- ---- 12 to 16
 
-  own-mark : markAt s 0 0x47 0x48 ≡ true
-  unfolding material header markAt
-  own-mark = refl
+  own-mark : (markAt s 0 0x47 0x48 || γ .hashed) ≡ true
+  unfolding material header markAt endingOf colours hashes
+  own-mark = go (γ .hashed)
+    where
+      go : (b : Bool) → ((eqb 0x47 0x47 && eqb (endingOf b .headerMark) 0x48) || b) ≡ true
+      go true = refl
+      go false = refl
 
   own-n : be16 s 3 ≡ γ .circuit .n
   unfolding material header be16
@@ -85,7 +82,7 @@ module _ (γ : Garbling) (known : Known (γ .scheme)) (few : γ .circuit .n + le
   unfolding material header be16
   own-q = two-back (length gs) (omega (arith, few))
 
-  whole : length s ≡ materialLength (γ .scheme) (length (γ .circuit .outputs)) (charges gs)
+  whole : length s ≡ materialLength (γ .scheme) (lastBytes (γ .hashed) (length (γ .circuit .outputs))) (charges gs)
   whole = material-length γ
 
   long : 9 ≤ length s
@@ -97,6 +94,7 @@ module _ (γ : Garbling) (known : Known (γ .scheme)) (few : γ .circuit .n + le
   file-fine =
       simp (
         le-ltb _ _ long,
+        hashed-is γ,
         own-mark,
         scheme-byte,
         le-leb _ _ (known .low),
@@ -172,25 +170,31 @@ module _ (γ : Garbling) (known : Known (γ .scheme)) (few : γ .circuit .n + le
   unfolding rowStart
   last-long = rw take-length at (front-long (length gs))
 
-  last-mark : markAt s (lastStart (getD s 2 0) (charges gs)) 0x47 0x44 ≡ true
-  unfolding markAt lastRecord
-  last-mark =
-      let p = front (length gs) in
-      let g0 : getD (p ++ lastRecord γ) (length p) 0 ≡ 0x47 = getD-append-seam p 0x47 _ 0 in
-      let g1 : getD (p ++ lastRecord γ) (length p + 1) 0 ≡ 0x44 = getD-append-add p (lastRecord γ) 1 0 in
-      rw (last-long, last-at, g0, g1)
+  mark-there : (p q : List ℕ) (y : ℕ) → markAt (p ++ (0x47 ∷ y ∷ q)) (length p) 0x47 y ≡ true
+  unfolding markAt
+  mark-there p q y =
+      let g0 : getD (p ++ (0x47 ∷ y ∷ q)) (length p) 0 ≡ 0x47 = getD-append-seam p 0x47 _ 0 in
+      let g1 : getD (p ++ (0x47 ∷ y ∷ q)) (length p + 1) 0 ≡ y = getD-append-add p (0x47 ∷ y ∷ q) 1 0 in
+      rw (g0, g1, eq-eqb y y refl)
 
-  last-bit : (i : ℕ) → getD s (lastStart (getD s 2 0) (charges gs) + 2 + i) 0 ≤ 1
+  last-mark : markAt s (lastStart (getD s 2 0) (charges gs)) 0x47 (endingOf (γ .hashed) .lastMark) ≡ true
   unfolding lastRecord
-  last-bit i =
-      let p = front (length gs) in
-      let at : length p + 2 + i ≡ length p + suc (suc i) = omega arith in
-      rw (last-long, last-at, at, getD-append-add p (lastRecord γ) (suc (suc i)) 0)
-      (bits-low (λ w. colour (wire (block 0) (zeroTokens γ) w)) (λ w. colour-low (wire (block 0) (zeroTokens γ) w)) (γ .circuit .outputs) i)
+  last-mark = rw (last-long, last-at) (mark-there (front (length gs)) _ _)
+
+  -- what comes before the outputs' bytes
+  head : List ℕ
+  head = front (length gs) ++ (0x47 ∷ endingOf (γ .hashed) .lastMark ∷ [])
+
+  stored-there : (i : ℕ) → i < length (γ .circuit .outputs) → storedVerdict (endingOf (γ .hashed)) s (lastStart (getD s 2 0) (charges gs)) i ≡ fine
+  unfolding storedVerdict lastRecord head refuse madeFor
+  stored-there i h =
+      let long : length (front (length gs)) + 2 ≡ length head = sym (length-append (front (length gs)) (0x47 ∷ endingOf (γ .hashed) .lastMark ∷ [])) in
+      let is-s : s ≡ head ++ storedOf γ (endingOf (γ .hashed)) 1 (γ .circuit .outputs) = last-at ∙ sym (append-assoc (front (length gs)) (0x47 ∷ endingOf (γ .hashed) .lastMark ∷ []) _) in
+      rw (last-long, long, is-s, stored-after γ head i h, right (γ .hashed) .lets (i + 1) _ _)
 
   last-fine : lastVerdict s (lastStart (getD s 2 0) (charges gs)) (length (γ .circuit .outputs)) ≡ fine
-  unfolding lastVerdict lastByteVerdict refuse _then_
-  last-fine = rw last-mark (first-all _ (length (γ .circuit .outputs)) (λ i h. rw (le-ltb _ _ (last-bit i))))
+  unfolding lastVerdict refuse _then_
+  last-fine = rw (hashed-is γ, last-mark) (first-all _ (length (γ .circuit .outputs)) stored-there)
 
   -- ---- all of them
   pub own-material : materialVerdict (γ .circuit) s ≡ fine

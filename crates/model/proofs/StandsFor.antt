@@ -4,7 +4,7 @@ use Prim.Native.Nat.{ℕ, zero, suc, _+_, _*_, _-_, _≤_, _<_}
 use native.Mathlib.Nat.{le-of-suc-le-suc, not-suc-le-zero}
 use native.Mathlib.Omega.{arith}
 use mathlib.Core.Path.{_≡_, refl, sym, _∙_}
-use mathlib.Core.Bool.{Bool, true, false, _||_}
+use mathlib.Core.Bool.{true, false}
 use mathlib.Core.List.{List, [], _∷_, _++_}
 use borrow.Author.Tests.{le-ltb, le-leb, eq-eqb}
 use lib.ListN.{length, getD, drop, length-append, length-drop, List·getD-append}
@@ -13,12 +13,12 @@ use Rattle.model.specs.declared.Wanted.{Wanted}
 use Rattle.model.specs.Bytes.{be16, two}
 use Rattle.model.specs.Circuit.{circuitOf, markAt, inputs, outputs, gates, named, recordAt, gateAt, outputRecordAt, outputAt, lastWires, mostOutputs, sizesHold, circuitLength}
 use Rattle.model.specs.Refusals.{Verdict, fine, refuse, _then_, headVerdict, recordVerdict, outputVerdict, outputsVerdict, circuitVerdict}
-use Rattle.model.specs.Operations.{Answer, Made, sizesOf, plainVerdict, garbleVerdict, garbleMade, encodeVerdict, evaluateVerdict, evaluateCallsOf, outputTokensVerdict, decodeVerdict, PlainIs, GarbleIs, EncodeIs, EvaluateIs, OutputTokensIs, DecodeIs}
+use Rattle.model.specs.Operations.{Answer, Made, sizesOf, plainVerdict, fileLength, garbleVerdict, garbleMade, encodeVerdict, evaluateVerdict, evaluateCallsOf, outputTokensVerdict, decodeVerdict, PlainIs, GarbleIs, EncodeIs, EvaluateIs, OutputTokensIs, DecodeIs}
 use Rattle.model.specs.Kept.{outputBytes, namedOf, StandsFor}
 use Rattle.model.proofs.Lists.{from-cong, tabulate-length, entry}
 use Rattle.model.proofs.Accepted.{SizesHold, sizes-kept, accepted-header}
 use Rattle.model.proofs.OwnMaterial.{two-back}
-use Rattle.model.proofs.Verdicts.{then-fine, first-each, first-all}
+use Rattle.model.proofs.Verdicts.{then-fine, first-each, first-all, or-true}
 
 -- ---- output records
 
@@ -37,10 +37,6 @@ output-byte (w ∷ ws) zero i h l =
 output-byte (w ∷ ws) (suc k) i h l =
     let at : 4 * suc k + i ≡ 4 + (4 * k + i) = omega arith in
     rw at (getD-append-add (0x43 ∷ 0x4F ∷ two w) (outputBytes ws) (4 * k + i) 0 ∙ output-byte ws k i (le-of-suc-le-suc h) l)
-
-or-true : (b : Bool) → (b || true) ≡ true
-or-true true = refl
-or-true false = refl
 
 -- more outputs are allowed by name than without
 sizes-by-name : (n m q : ℕ) → SizesHold n m q → sizesHold true n m q ≡ true
@@ -76,7 +72,7 @@ module _ (c d : List ℕ) (a : Alike c d) where
 
   garble-too : (seed : List ℕ) (want : Wanted) (m z o : List ℕ) (r : Answer Made) (m′ z′ o′ : List ℕ)
       → GarbleIs c seed want m z o r m′ z′ o′ → GarbleIs d seed want m z o r m′ z′ o′
-  unfolding garbleVerdict garbleMade
+  unfolding garbleVerdict garbleMade fileLength
   garble-too seed want m z o r m′ z′ o′ p = record {
     answered = rw (a .same-verdict, a .same-n, a .same-m, a .same-q, a .same-circuit) (p .answered);
     material-left = rw (a .same-verdict, a .same-n, a .same-m, a .same-q, a .same-circuit) (p .material-left);

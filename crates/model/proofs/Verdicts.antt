@@ -1,11 +1,12 @@
 -- Laws of refusals tried in turn. Assumes nothing.
-use Prim.Native.Nat.{ℕ, zero, suc, _+_, _-_, _<_}
+use Prim.Native.Nat.{ℕ, zero, suc, _+_, _-_, _≤_, _<_}
 use native.Mathlib.Nat.{add-zero, add-suc, le-of-suc-le-suc, eq-or-lt-of-le, not-suc-le-zero}
 use native.Mathlib.Numerals.{add-one}
 use native.Mathlib.Omega.{arith}
 use mathlib.Core.Logic.{⊎-elim}
-use mathlib.Core.Path.{_≡_, refl}
-use mathlib.Core.Bool.{Bool, true, false, _&&_}
+use mathlib.Core.Path.{_≡_, refl, sym}
+use mathlib.Core.Bool.{Bool, true, false, _&&_, _||_}
+use lib.Bits.{bitOr, or-add-and, and-le-l, and-le-r}
 use Rattle.model.specs.declared.Ran.{Ran}
 use Rattle.model.specs.declared.Refusal.{Refusal}
 use Rattle.model.specs.Refusals.{Verdict, fine, refused, refuse, _then_, firstOf, verdictOf}
@@ -27,6 +28,14 @@ pub and-both : (a b : Bool) → (a && b) ≡ true → (a ≡ true) × (b ≡ tru
 and-both true b e = (refl, e)
 and-both false b e = absurd (let z : _≡_ {A = ℕ} 0 1 = cc in omega arith)
 
+pub or-true : (b : Bool) → (b || true) ≡ true
+or-true true = refl
+or-true false = refl
+
+pub or-false : (b : Bool) → (b || false) ≡ b
+or-false true = refl
+or-false false = refl
+
 -- ---- refusals as steps: each is tried once those before it are done, and the first that refuses is the answer
 
 -- where a step refuses, so does all that starts with it
@@ -38,6 +47,12 @@ then-refused i x v w e = rw (← e)
 pub then-done : (u v w : Verdict) → fine ≡ v → u ≡ w → u ≡ (v then w)
 unfolding _then_
 then-done u v w e g = rw (← e, g)
+
+-- what refuses nothing may be left out
+pub then-nothing : (v : Verdict) → (v then fine) ≡ v
+unfolding _then_
+then-nothing fine = refl
+then-nothing (refused i x) = refl
 
 pub then-assoc : (u v w : Verdict) → ((u then v) then w) ≡ (u then (v then w))
 unfolding _then_
@@ -95,6 +110,52 @@ pub first-same : (f g : ℕ → Verdict) (q : ℕ) → ((k : ℕ) → k < q → 
 unfolding firstOf
 first-same f g zero h = refl
 first-same f g (suc q) h = rw (first-same f g q (λ k l. h k (omega arith)), h q (omega arith))
+
+-- ---- a search by a loop: no fault among the first i of m
+
+pub record Searched (f : ℕ → Verdict) (m i : ℕ) : Type 0 where
+  pub within : i ≤ m
+  pub none-yet : firstOf f i ≡ fine
+
+module _ (f : ℕ → Verdict) (m : ℕ) where
+  pub searched-start : Searched f m 0
+  unfolding firstOf
+  searched-start = record { within = omega arith; none-yet = refl }
+
+  module _ (i : ℕ) (inv : Searched f m i) where
+    pub searched-turn : i < m → f i ≡ fine → Searched f m (i + 1)
+    searched-turn h e = record { within = omega arith; none-yet = first-next f i (inv .none-yet) e }
+
+    pub searched-found : i < m → (n x : ℕ) → f i ≡ refused n x → refused n x ≡ firstOf f m
+    searched-found h n x e = sym (first-found f i m n x (inv .none-yet) h e)
+
+    pub searched-end : m ≤ i → fine ≡ firstOf f m
+    searched-end l = let e : m ≡ i = omega (arith, inv .within) in rw (e, inv .none-yet)
+
+pub ruleset searched = (searched-start, searched-turn, searched-found, searched-end)
+
+-- all of them together, without a branch: where `all` is 0 there was none
+
+pub record Together (f : ℕ → Verdict) (m all i : ℕ) : Type 0 where
+  pub within : i ≤ m
+  pub if-none : all ≡ 0 → Searched f m i
+
+module _ (f : ℕ → Verdict) (m : ℕ) where
+  pub together-start : Together f m 0 0
+  together-start = record { within = omega arith; if-none = λ _. searched-start f m }
+
+  module _ (all i : ℕ) (inv : Together f m all i) where
+    pub together-turn : i < m → (d : ℕ) → (d ≡ 0 → f i ≡ fine) → Together f m (bitOr all d) (i + 1)
+    together-turn h d e = record { within = omega arith; if-none = λ none. searched-turn f m i (inv .if-none (before none)) h (e (last none)) }
+      where
+        before : bitOr all d ≡ 0 → all ≡ 0
+        before none = omega (arith, or-add-and all d, and-le-r all d)
+
+        last : bitOr all d ≡ 0 → d ≡ 0
+        last none = omega (arith, or-add-and all d, and-le-l all d)
+
+    pub together-end : m ≤ i → all ≡ 0 → fine ≡ firstOf f m
+    together-end l none = searched-end f m i (inv .if-none none) l
 
 -- ---- what an answer tells of its verdict
 

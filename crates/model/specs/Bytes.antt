@@ -1,6 +1,8 @@
 -- Lists and numbers that every section uses. Document 01, "The product's edges": numbers in files are big-endian.
 use Prim.Native.Nat.{ℕ, zero, suc, _+_, _*_, _/_, _%_, _^_}
 use mathlib.Core.List.{List, [], _∷_, _++_}
+use mathlib.Core.Bool.{Bool, true, false, _&&_}
+use lib.Dec.{eqb}
 use lib.ListN.{length, getD, take, drop}
 
 -- f i, f (i + 1), .., n of them
@@ -37,3 +39,10 @@ over new old = new ++ drop (length new) old
 -- a buffer with new bytes at an index, the others as they were
 unfoldable pub put : List ℕ → ℕ → List ℕ → List ℕ
 put old at new = take at old ++ over new (drop at old)
+
+-- whether two lists are the same bytes
+unfoldable pub equalBytes : List ℕ → List ℕ → Bool
+equalBytes [] [] = true
+equalBytes [] (y ∷ ys) = false
+equalBytes (x ∷ xs) [] = false
+equalBytes (x ∷ xs) (y ∷ ys) = eqb x y && equalBytes xs ys

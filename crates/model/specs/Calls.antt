@@ -1,6 +1,6 @@
 -- The encryptions that are counted, 01's calls of π. Document 01, "Scheme 1" to "Scheme 3"; "Four questions": a count is "the sum over gates of the
 -- scheme's own calls". "The hash now receives its key with each call .. and each call is one encryption in the count." (02, job 7)
-use Prim.Native.Nat.{ℕ, _+_, _*_}
+use Prim.Native.Nat.{ℕ, suc, _+_, _*_}
 use mathlib.Core.Bool.{cond}
 use mathlib.Core.List.{List, [], _∷_, _++_, map}
 use lib.Dec.{eqb}
@@ -8,12 +8,14 @@ use lib.ListN.{length}
 use Rattle.model.specs.declared.Gate.{Gate}
 use Rattle.model.specs.Circuit.{Kind, charged, free, refused, kindOf, wire}
 use Rattle.model.specs.Aes.{Block, _⊕_, block, fixedKey}
-use Rattle.model.specs.Tokens.{Garbling, colour}
+use Rattle.model.specs.Tokens.{Garbling, colour, oneToken}
 use Rattle.model.specs.Scheme.{Site}
 use Rattle.model.specs.Gax.{keyBlock, tokenOf}
 use Rattle.model.specs.Hashes.{Call, hashCallOf}
 use Rattle.model.specs.HalfGates.{halfA, halfB, generatorTweak, evaluatorTweak}
 use Rattle.model.specs.Garbling.{schemeOf, own, siteOf, zeroStep}
+use Rattle.model.specs.Ending.{Ending, endingOf}
+use Rattle.model.specs.Material.{zeroOf}
 use Rattle.model.specs.Evaluation.{openStep, past}
 
 -- What a scheme asks of its cipher E, whatever E seals, or of its hash H.
@@ -79,6 +81,14 @@ module _ (γ : Garbling) where
   unfoldable pub garbleCalls : List Gate → List Block → ℕ
   garbleCalls [] xs = 0
   garbleCalls (g ∷ gs) xs = garbleCallsAt (kindOf (g .code)) (siteOf γ xs g) + garbleCalls gs (xs ++ (zeroStep γ xs g ∷ []))
+
+  -- "for 47 4A adds 2m calls" (02, job 12): those of the outputs ws, from number k on
+  unfoldable pub callsOf : Ending → ℕ → List ℕ → List Call
+  callsOf E k [] = []
+  callsOf E k (w ∷ ws) = E .calls k (zeroOf γ w) (oneToken γ (zeroOf γ w)) ++ callsOf E (suc k) ws
+
+  unfoldable pub outputCalls : ℕ
+  outputCalls = length (callsOf (endingOf (γ .hashed)) 1 (γ .circuit .outputs))
 
 -- k is the scheme byte
 module _ (k : ℕ) where

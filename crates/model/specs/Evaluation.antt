@@ -1,14 +1,16 @@
 -- Evaluation of a garbled circuit, over anyone's rows. Document 01, "Tokens", "Scheme 1" to "Scheme 3", "Material" and "Operations".
-use Prim.Native.Nat.{ℕ, zero, suc, _*_, _-_}
+use Prim.Native.Nat.{ℕ, zero, suc, _+_, _*_, _-_}
 use mathlib.Core.List.{List, [], _∷_, _++_, map}
 use lib.ListN.{length, getD, take, drop}
 use Rattle.model.specs.declared.Gate.{Gate}
+use Rattle.model.specs.Bytes.{tabulate}
 use Rattle.model.specs.Circuit.{Circuit, Kind, charged, free, refused, kindOf, wire}
 use Rattle.model.specs.Aes.{Block, block}
-use Rattle.model.specs.Tokens.{colour, decoded, freeToken}
+use Rattle.model.specs.Tokens.{freeToken}
 use Rattle.model.specs.Scheme.{Scheme, recordLength}
 use Rattle.model.specs.Garbling.{own, schemeOf}
-use Rattle.model.specs.Material.{joinBlocks}
+use Rattle.model.specs.Ending.{Ending, endingOf}
+use Rattle.model.specs.Material.{joinBlocks, hashed, lastBytes}
 
 -- the first k blocks of bytes
 unfoldable pub cut : ℕ → List ℕ → List Block
@@ -48,15 +50,19 @@ module _ (S : Scheme) where
 unfoldable pub evaluate : Circuit → List Block → List ℕ → List Block
 evaluate c ts material = openGates (schemeOf (getD material 2 0)) (c .gates) (drop 9 material) ts
 
--- ---- decoding: "each the token's colour ⊕ the material's byte"
+-- ---- decoding
 
-unfoldable pub decodeWith : List Block → List ℕ → List ℕ
-decodeWith [] ds = []
-decodeWith (t ∷ ts) ds = decoded (colour t) (getD ds 0 0) ∷ decodeWith ts (drop 1 ds)
+-- the bytes of output i, from 0, where those of all outputs start at an index of s
+unfoldable pub bytesFor : Ending → List ℕ → ℕ → ℕ → List ℕ
+bytesFor E s at i = take (E .size) (drop (at + E .size * i) s)
 
--- the material's last bytes, one for each output
+-- and in a material, at its end, by its mark
+unfoldable pub storedAt : Circuit → List ℕ → ℕ → List ℕ
+storedAt c s i = bytesFor (endingOf (hashed s)) s (length s - lastBytes (hashed s) (length (c .outputs))) i
+
+-- the bit of each output
 unfoldable pub decode : Circuit → List Block → List ℕ → List ℕ
-decode c ts material = decodeWith ts (drop (length material - length (c .outputs)) material)
+decode c ts s = tabulate (length (c .outputs)) (λ i. endingOf (hashed s) .bit (i + 1) (getD ts i (block 0)) (storedAt c s i))
 
 -- ---- the same on bytes
 

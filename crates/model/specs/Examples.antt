@@ -1,5 +1,6 @@
 -- Document 01, "Table of examples": those marked P, and the limits; and of document 02, job 2, a gate of one operand, job 4, the block that is
--- enciphered under the seed, job 7, what the hashes encipher, and job 8, outputs by name. The theorem is `examples` of proofs/Examples.antt.
+-- enciphered under the seed, job 7, what the hashes encipher, job 8, outputs by name, and job 12, hashes of the outputs. The theorem is `examples` of
+-- proofs/Examples.antt.
 use Prim.Native.Nat.{ℕ}
 use mathlib.Core.Path.{_≡_}
 use mathlib.Core.Bool.{true, false}
@@ -10,7 +11,9 @@ use Rattle.model.specs.Aes.{Block, block, double, quadruple, sBox}
 use Rattle.model.specs.Tokens.{runBlock}
 use Rattle.model.specs.Hashes.{hashCall, sigma, rekeyedCall}
 use Rattle.model.specs.HalfGates.{alpha, beta, gamma}
-use Rattle.model.specs.Refusals.{fine, refused, schemeVerdict}
+use Rattle.model.specs.Ending.{outputTweak, hashes}
+use Rattle.model.specs.Material.{hashed, lastBytes, materialLength}
+use Rattle.model.specs.Refusals.{fine, refused, schemeVerdict, markVerdict}
 use Rattle.model.specs.Operations.{yes, no, checkAnswer}
 
 -- P11's circuit, with other operands and another code
@@ -90,3 +93,15 @@ pub record Examples : Type 0 where
   pub first-output : checkAnswer (namedGate 0x03 0x47 0x04) ≡ no (refused 25 2)
   pub more-than-wires : checkAnswer (namedGate 0x04 0x4F 0x03) ≡ no (refused 3 2)
   pub named-short : checkAnswer (take 26 (namedGate 0x03 0x4F 0x03)) ≡ no (refused 4 26)
+  -- 02, job 12: the tweaks of the first and of the last output that can be, the length of P11's material by scheme 3 with each mark, marks, and the
+  -- bytes of an output whose two hashes are equal, or are not
+  pub first-tweak : outputTweak 1 ≡ 131074
+  pub last-tweak : outputTweak 65535 ≡ 262142
+  pub with-colours : materialLength 3 (lastBytes false 1) 1 ≡ 48
+  pub with-hashes : materialLength 3 (lastBytes true 1) 1 ≡ 79
+  pub mark-of-colours : markVerdict 0x4748 ≡ fine
+  pub mark-of-hashes : markVerdict 0x474A ≡ fine
+  pub mark-of-none : markVerdict 0x4749 ≡ refused 13 0
+  pub hashed-file : hashed (0x47 ∷ 0x4A ∷ []) ≡ true
+  pub equal-pair : hashes .clash (replicate 32 0x07) ≡ true
+  pub unequal-pair : hashes .clash (replicate 31 0x07 ++ (0x08 ∷ [])) ≡ false

@@ -2,27 +2,29 @@
 use Prim.Native.Nat.{ℕ, _+_, _*_, _-_, _≤_, _<_}
 use mathlib.Core.Path.{_≡_}
 use mathlib.Core.Logic.{_↔_}
-use mathlib.Core.Bool.{Bool, true, not, cond, _&&_, _||_}
+use mathlib.Core.Bool.{Bool, true, false, not, cond, _&&_, _||_}
 use mathlib.Core.List.{List, [], _∷_, _++_, map}
 use lib.Bits.{differ}
 use lib.Dec.{eqb, leb, ltb}
 use lib.ListN.{length, getD, take, drop}
 use Rattle.model.specs.declared.Gate.{Gate}
+use Rattle.model.specs.declared.Sizes.{Sizes}
 use Rattle.model.specs.declared.Wanted.{Wanted}
 use Rattle.model.specs.Bytes.{tabulate, two}
 use Rattle.model.specs.Circuit.{Circuit, Kind, charged, free, refused, circuitOf, kindOf, charge, charges, codeAt, markAt, inputs, outputs, gates, named, recordAt, gateAt, lastWires, operandsHold, gateWire, wire, wires, plainValues}
 use Rattle.model.specs.Aes.{Block, _⊕_, block, times, aes, π, double}
-use Rattle.model.specs.Tokens.{Garbling, colour, coloured, seedBlock, offset, inputZeros, freeZero}
+use Rattle.model.specs.Tokens.{Garbling, garblingOf, colour, decoded, coloured, seedBlock, offset, inputZeros, freeZero}
 use Rattle.model.specs.Scheme.{Site, Scheme}
 use Rattle.model.specs.Gax.{dualKey, gax}
 use Rattle.model.specs.Gaxr.{gaxr}
 use Rattle.model.specs.Hashes.{hashOf}
 use Rattle.model.specs.HalfGates.{alpha, beta, gamma, generatorTweak, evaluatorTweak, joined, half}
 use Rattle.model.specs.Garbling.{own, schemeOf, zeroStep, zeroTokens, inputOnes}
-use Rattle.model.specs.Material.{joinBlocks, lastStart, header, material}
-use Rattle.model.specs.Evaluation.{cut, openAt, openStep, past, openGates, evaluate, outputTokens}
-use Rattle.model.specs.Refusals.{Verdict, fine, refuse, _then_, firstOf, isRefused, isCharged, circuitVerdict, schemeVerdict, fileVerdict, rowRecordAt, lastVerdict, materialVerdict}
-use Rattle.model.specs.Operations.{Answer, Made, sizesOf, PlainIs, GarbleIs, EncodeIs, EvaluateIs, OutputTokensIs, DecodeIs}
+use Rattle.model.specs.Material.{joinBlocks, lastStart, materialLength, hashed, material}
+use Rattle.model.specs.Evaluation.{cut, openAt, openStep, past, openGates, evaluate, decode, outputTokens}
+use Rattle.model.specs.Calls.{garbleCalls}
+use Rattle.model.specs.Refusals.{Verdict, fine, refuse, _then_, firstOf, isRefused, isCharged, circuitVerdict, seedVerdict, schemeVerdict, circuitSizes, sameSizes, fileVerdict, rowRecordAt, rowVerdict, lastVerdict, materialVerdict, roomVerdict, unknownVerdict, clashVerdict}
+use Rattle.model.specs.Operations.{Answer, Made, made, sizesOf, garbleVerdict, garbleMade, PlainIs, GarbleIs, EncodeIs, EvaluateIs, OutputTokensIs, DecodeIs}
 
 -- ==== Job 2, gates that use one operand
 
@@ -192,11 +194,16 @@ module _ (K : ℕ → Kind) where
     recordsBy [] xs = []
     recordsBy (g ∷ gs) xs = recordOfBy γ (K (g .code)) (siteBy B xs g) ++ recordsBy gs (xs ++ (zeroStepBy xs g ∷ []))
 
+    -- "Header of 9 bytes: mark 47 48 .."
+    unfoldable pub headerBy : List ℕ
+    headerBy = 0x47 ∷ 0x48 ∷ γ .scheme ∷ two (γ .circuit .n) ++ two (length (γ .circuit .outputs)) ++ two (length (γ .circuit .gates))
+
+    -- "Last: mark 47 44 and m bytes, each the colour (0 or 1) of an output's zero token."
     unfoldable pub lastRecordBy : List ℕ
     lastRecordBy = 0x47 ∷ 0x44 ∷ map (λ w. colour (wire (block 0) zeroTokensBy w)) (γ .circuit .outputs)
 
     unfoldable pub materialBy : List ℕ
-    materialBy = header γ ++ recordsBy (γ .circuit .gates) (inputZerosBy B γ) ++ lastRecordBy
+    materialBy = headerBy ++ recordsBy (γ .circuit .gates) (inputZerosBy B γ) ++ lastRecordBy
 
   -- Evaluation
   module _ (S : Scheme) where
@@ -218,7 +225,7 @@ pub record SameBytes (c : List ℕ) : Type 0 where
   pub as-many : charges (circuitOf c .gates) ≡ chargesBy kind01 (circuitOf c .gates)
   pub values : (vs : List ℕ) → ((i : ℕ) → getD vs i 0 ≤ 1) → plainValues (circuitOf c) vs ≡ wires (gateValueBy kind01) (circuitOf c .gates) vs
   pub zeros : (γ : Garbling) → γ .circuit ≡ circuitOf c → zeroTokens γ ≡ zeroTokensBy kind01 (seedBlock γ) γ
-  pub rows : (γ : Garbling) → γ .circuit ≡ circuitOf c → material γ ≡ materialBy kind01 (seedBlock γ) γ
+  pub rows : (γ : Garbling) → γ .circuit ≡ circuitOf c → γ .hashed ≡ false → material γ ≡ materialBy kind01 (seedBlock γ) γ
   pub refusals : (s : List ℕ) → materialVerdict (circuitOf c) s ≡ materialVerdictBy kind01 (circuitOf c) s
   pub tokens : (ts : List Block) (s : List ℕ) → evaluate (circuitOf c) ts s ≡ evaluateBy kind01 (circuitOf c) ts s
 
@@ -235,7 +242,7 @@ seedBlock01 γ i = aes (γ .seed) (block i)
 pub record RunZero (K : ℕ → Kind) (γ : Garbling) : Type 0 where
   pub zeros : zeroTokens γ ≡ zeroTokensBy K (seedBlock01 γ) γ
   pub ones : inputOnes γ ≡ inputOnesBy (seedBlock01 γ) γ
-  pub rows : material γ ≡ materialBy K (seedBlock01 γ) γ
+  pub rows : γ .hashed ≡ false → material γ ≡ materialBy K (seedBlock01 γ) γ
 
 -- ==== Job 7, the newer half-gates hash
 
@@ -293,3 +300,66 @@ pub record StandsFor (s : List ℕ) : Type 0 where
   pub evaluate : (ts f o : List ℕ) (r : Answer ℕ) (x : List ℕ) → EvaluateIs s ts f o r x ↔ EvaluateIs (namedOf s) ts f o r x
   pub output-tokens : (ws o : List ℕ) (r : Verdict) (x : List ℕ) → OutputTokensIs s ws o r x ↔ OutputTokensIs (namedOf s) ws o r x
   pub decode : (ts f o : List ℕ) (r : Verdict) (x : List ℕ) → DecodeIs s ts f o r x ↔ DecodeIs (namedOf s) ts f o r x
+
+-- ==== Job 12, decoding that knows its tokens
+
+-- ---- 01's own words, of the mark 47 48 alone
+
+-- 12 to 16: "Length 11+m+p(4+16r)"
+unfoldable pub fileVerdict01 : Sizes → List ℕ → Verdict
+fileVerdict01 z s =
+    refuse (ltb (length s) 9) 12 (length s)
+    then refuse (not (markAt s 0 0x47 0x48)) 13 0
+    then schemeVerdict (getD s 2 0)
+    then refuse (not (sameSizes z s)) 15 3
+    then refuse (not (eqb (length s) (materialLength (getD s 2 0) (z .m) (z .p)))) 16 (length s)
+
+-- 18: "The last record's mark is wrong or a byte of it exceeds 1 (its start)."
+unfoldable pub lastByte01 : List ℕ → ℕ → ℕ → Verdict
+lastByte01 s start i = refuse (ltb 1 (getD s (start + 2 + i) 0)) 18 start
+
+unfoldable pub lastVerdict01 : List ℕ → ℕ → ℕ → Verdict
+lastVerdict01 s start m =
+    refuse (not (markAt s start 0x47 0x44)) 18 start
+    then firstOf (lastByte01 s start) m
+
+unfoldable pub materialVerdict01 : Circuit → List ℕ → Verdict
+materialVerdict01 c s =
+    fileVerdict01 (circuitSizes c) s
+    then firstOf (rowVerdict c s) (length (c .gates))
+    then lastVerdict01 s (lastStart (getD s 2 0) (charges (c .gates))) (length (c .outputs))
+
+-- decoding: "each the token's colour ⊕ the material's byte"
+unfoldable pub decodeWith01 : List Block → List ℕ → List ℕ
+decodeWith01 [] ds = []
+decodeWith01 (t ∷ ts) ds = decoded (colour t) (getD ds 0 0) ∷ decodeWith01 ts (drop 1 ds)
+
+unfoldable pub decode01 : Circuit → List Block → List ℕ → List ℕ
+decode01 c ts s = decodeWith01 ts (drop (length s - length (c .outputs)) s)
+
+-- garble: 1 to 7, 25, 26, 8, 14, 19, and what it returns
+unfoldable pub garbleVerdict01 : List ℕ → List ℕ → Wanted → ℕ → ℕ → ℕ → Verdict
+garbleVerdict01 c seed want km kz ko =
+    circuitVerdict c
+    then seedVerdict seed
+    then schemeVerdict (want .scheme)
+    then roomVerdict (materialLength (want .scheme) (outputs c) (charges (circuitOf c .gates))) km
+    then roomVerdict (16 * (inputs c + gates c)) kz
+    then roomVerdict (16 * inputs c) ko
+
+unfoldable pub garbleMade01 : List ℕ → List ℕ → Wanted → Made
+garbleMade01 c seed want =
+    made (materialLength (want .scheme) (outputs c) (charges (circuitOf c .gates)))
+    (garbleCalls (garblingOf c seed want) (circuitOf c .gates) (inputZeros (garblingOf c seed want)))
+
+-- ---- Garbling with the mark 47 48 refuses what it refused, and as before; 30 refuses nothing; the material and what garble returns are what they were.
+-- A file of another mark than 47 4A is refused as before, and decodes as before where it is not, for as many tokens as there are outputs; 29 refuses
+-- nothing. Every answer and every byte of an operation go by these.
+pub record OldEnding : Type 0 where
+  pub garble-refusals : (c seed : List ℕ) (want : Wanted) (km kz ko : ℕ) → want .mark ≡ 0x4748 → garbleVerdict c seed want km kz ko ≡ garbleVerdict01 c seed want km kz ko
+  pub returned : (c seed : List ℕ) (want : Wanted) → want .mark ≡ 0x4748 → garbleMade c seed want ≡ garbleMade01 c seed want
+  pub no-clash : (γ : Garbling) → γ .hashed ≡ false → clashVerdict γ ≡ fine
+  pub rows : (γ : Garbling) → γ .hashed ≡ false → material γ ≡ materialBy kindOf (seedBlock γ) γ
+  pub refusals : (c : Circuit) (s : List ℕ) → hashed s ≡ false → materialVerdict c s ≡ materialVerdict01 c s
+  pub all-known : (c : Circuit) (ts : List Block) (s : List ℕ) → hashed s ≡ false → unknownVerdict c ts s ≡ fine
+  pub bits : (c : Circuit) (ts : List Block) (s : List ℕ) → hashed s ≡ false → length ts ≡ length (c .outputs) → decode c ts s ≡ decode01 c ts s

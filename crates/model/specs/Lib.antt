@@ -11,6 +11,7 @@ pub mod Gaxr
 pub mod Hashes
 pub mod HalfGates
 pub mod Garbling
+pub mod Ending
 pub mod Material
 pub mod Evaluation
 pub mod Calls

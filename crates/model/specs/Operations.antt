@@ -3,7 +3,7 @@ use Prim.Native.Nat.{ℕ, _+_, _*_}
 use mathlib.Core.Path.{_≡_}
 use mathlib.Core.List.{List, []}
 use mathlib.Core.Bool.{cond}
-use lib.ListN.{length, getD, drop}
+use lib.ListN.{length, getD, drop, replicate}
 use lib.Dec.{ltb, eqb}
 use Rattle.model.specs.declared.Sizes.{Sizes}
 use Rattle.model.specs.declared.Checked.{Checked}
@@ -15,12 +15,12 @@ use Rattle.model.specs.declared.Gate.{Gate}
 use Rattle.model.specs.declared.Wanted.{Wanted}
 use Rattle.model.specs.Bytes.{over}
 use Rattle.model.specs.Circuit.{charges, circuitOf, inputs, outputs, gates, circuitBytes, plainValues}
-use Rattle.model.specs.Tokens.{garblingOf, inputZeros}
+use Rattle.model.specs.Tokens.{wantsHashes, garblingOf, inputZeros}
 use Rattle.model.specs.Garbling.{zeroTokens, inputOnes}
-use Rattle.model.specs.Material.{materialLength, joinBlocks, material}
+use Rattle.model.specs.Material.{lastBytes, materialLength, joinBlocks, material}
 use Rattle.model.specs.Evaluation.{cut, encodeBytes, evaluateBytes, decodeBytes, tokenAt, outputTokens}
-use Rattle.model.specs.Calls.{garbleCalls, evaluateCalls}
-use Rattle.model.specs.Refusals.{Verdict, fine, refused, refuse, _then_, verdictOf, circuitVerdict, seedVerdict, valuesVerdict, tokensVerdict, schemeVerdict, materialVerdict, roomVerdict, pickVerdict}
+use Rattle.model.specs.Calls.{garbleCalls, outputCalls, evaluateCalls}
+use Rattle.model.specs.Refusals.{Verdict, fine, refused, refuse, _then_, verdictOf, circuitVerdict, seedVerdict, valuesVerdict, tokensVerdict, schemeVerdict, markVerdict, materialVerdict, roomVerdict, pickVerdict, unknownVerdict, clashVerdict}
 
 -- what an operation answers: a refusal, or its results
 pub data Answer (A : Type 0) : Type 0 where
@@ -70,13 +70,18 @@ pub record PlainIs (c v o : List ℕ) (r : Verdict) (x : List ℕ) : Type 0 wher
 -- ---- "Garble (circuit, seed, scheme as a byte): material; zero tokens of all wires, 16(n+q) bytes; one tokens of the inputs, 16n bytes"; "Garbling
 -- takes a run number of 64 bits" (02, job 4), of which no verdict speaks
 
--- 1 to 7, 25, 26, 8, 14, and 19 for the three buffers in turn, of the lengths km, kz and ko
+-- the material's length, for what is wanted of a circuit's bytes
+unfoldable pub fileLength : List ℕ → Wanted → ℕ
+fileLength c want = materialLength (want .scheme) (lastBytes (wantsHashes want) (outputs c)) (charges (circuitOf c .gates))
+
+-- 1 to 7, 25, 26, 8, 13, 14, and 19 for the three buffers in turn, of the lengths km, kz and ko
 unfoldable pub garbleVerdict : List ℕ → List ℕ → Wanted → ℕ → ℕ → ℕ → Verdict
 garbleVerdict c seed want km kz ko =
     circuitVerdict c
     then seedVerdict seed
+    then markVerdict (want .mark)
     then schemeVerdict (want .scheme)
-    then roomVerdict (materialLength (want .scheme) (outputs c) (charges (circuitOf c .gates))) km
+    then roomVerdict (fileLength c want) km
     then roomVerdict (16 * (inputs c + gates c)) kz
     then roomVerdict (16 * inputs c) ko
 
@@ -90,15 +95,21 @@ garbledOf (Garbled.Refused f) = no (verdictOf f)
 -- "Returns the material's length and the calls of π made"
 unfoldable pub garbleMade : List ℕ → List ℕ → Wanted → Made
 garbleMade c seed want =
-    made (materialLength (want .scheme) (outputs c) (charges (circuitOf c .gates)))
-    (garbleCalls (garblingOf c seed want) (circuitOf c .gates) (inputZeros (garblingOf c seed want)))
+    made (fileLength c want)
+    (garbleCalls (garblingOf c seed want) (circuitOf c .gates) (inputZeros (garblingOf c seed want)) + outputCalls (garblingOf c seed want))
+
+-- what a buffer of garble gets once nothing before 30 refuses: the bytes that are defined, or as many zeros. "30 alone changes buffers ..: the bytes
+-- garbling would have written are zero, all others unchanged." (02, job 12)
+abbrev pub wiped : Verdict → List ℕ → List ℕ
+wiped fine new = new
+wiped (refused i x) new = replicate (length new) 0
 
 -- garble's answer r, and its three buffers: m, z, o at entry and m′, z′, o′ at exit
 pub record GarbleIs (c seed : List ℕ) (want : Wanted) (m z o : List ℕ) (r : Answer Made) (m′ z′ o′ : List ℕ) : Type 0 where
-  pub answered : r ≡ answer (garbleVerdict c seed want (length m) (length z) (length o)) (garbleMade c seed want)
-  pub material-left : m′ ≡ written (garbleVerdict c seed want (length m) (length z) (length o)) (material (garblingOf c seed want)) m
-  pub zeros-left : z′ ≡ written (garbleVerdict c seed want (length m) (length z) (length o)) (joinBlocks (zeroTokens (garblingOf c seed want))) z
-  pub ones-left : o′ ≡ written (garbleVerdict c seed want (length m) (length z) (length o)) (joinBlocks (inputOnes (garblingOf c seed want))) o
+  pub answered : r ≡ answer (garbleVerdict c seed want (length m) (length z) (length o) then clashVerdict (garblingOf c seed want)) (garbleMade c seed want)
+  pub material-left : m′ ≡ written (garbleVerdict c seed want (length m) (length z) (length o)) (wiped (clashVerdict (garblingOf c seed want)) (material (garblingOf c seed want))) m
+  pub zeros-left : z′ ≡ written (garbleVerdict c seed want (length m) (length z) (length o)) (wiped (clashVerdict (garblingOf c seed want)) (joinBlocks (zeroTokens (garblingOf c seed want)))) z
+  pub ones-left : o′ ≡ written (garbleVerdict c seed want (length m) (length z) (length o)) (wiped (clashVerdict (garblingOf c seed want)) (joinBlocks (inputOnes (garblingOf c seed want)))) o
 
 -- ---- "Encode (circuit, values, the inputs' zero and one lists): 16n bytes"
 
@@ -165,13 +176,14 @@ pub record OutputTokensIs (c ws o : List ℕ) (r : Verdict) (x : List ℕ) : Typ
 
 -- ---- "Decode (circuit, output tokens of 16m bytes, material): m bytes"
 
--- 1 to 7, 25, 26, 11, 12 to 18, 19
+-- 1 to 7, 25, 26, 11, 12 to 18, 19, 29
 unfoldable pub decodeVerdict : List ℕ → List ℕ → List ℕ → ℕ → Verdict
 decodeVerdict c ts s room =
     circuitVerdict c
     then tokensVerdict (outputs c) ts
     then materialVerdict (circuitOf c) s
     then roomVerdict (outputs c) room
+    then unknownVerdict (circuitOf c) (cut (length (circuitOf c .outputs)) ts) s
 
 pub record DecodeIs (c ts s o : List ℕ) (r : Verdict) (x : List ℕ) : Type 0 where
   pub answered : r ≡ decodeVerdict c ts s (length o)

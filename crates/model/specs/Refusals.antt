@@ -1,4 +1,5 @@
--- Document 01, "Turned down, by number"; and of document 02, jobs 1 and 5, the numbers 21 to 24, and job 8, 25 and 26.
+-- Document 01, "Turned down, by number"; and of document 02, jobs 1 and 5, the numbers 21 to 24, job 8, 25 and 26, job 11, 27 and 28, which nothing
+-- gives yet, and job 12, 29 and 30.
 use Prim.Native.Nat.{ℕ, zero, suc, _+_, _*_, _%_}
 use mathlib.Core.List.{List}
 use mathlib.Core.Bool.{Bool, true, false, not, cond, _&&_, _||_}
@@ -7,11 +8,15 @@ use lib.Dec.{ltb, leb, eqb}
 use Rattle.model.specs.declared.Gate.{Gate}
 use Rattle.model.specs.declared.Sizes.{Sizes}
 use Rattle.model.specs.declared.Refusal.{Refusal}
-use Rattle.model.specs.declared.Refusal.the-variants.{CircuitShort, CircuitMark, Limits, CircuitLength, GateMark, Operands, Code, SeedLength, ValuesLength, Value, TokensLength, MaterialShort, MaterialMark, Scheme, MaterialSizes, MaterialLength, RowRecord, LastRecord, Room, PickWire, Width, TextLine, TextCounts, TextOutput, OutputMark, OutputWire}
+use Rattle.model.specs.declared.Refusal.the-variants.{CircuitShort, CircuitMark, Limits, CircuitLength, GateMark, Operands, Code, SeedLength, ValuesLength, Value, TokensLength, MaterialShort, MaterialMark, Scheme, MaterialSizes, MaterialLength, RowRecord, LastRecord, Room, PickWire, Width, TextLine, TextCounts, TextOutput, OutputMark, OutputWire, CommandOutside, NotReady, OutputToken, OutputHashes}
 use Rattle.model.specs.Bytes.{be16}
 use Rattle.model.specs.Circuit as C
 use Rattle.model.specs.Circuit.{Circuit, Kind, kindOf, charges, codeAt, markAt, inputs, outputs, gates, named, recordAt, gateAt, outputRecordAt, outputAt, sizesHold, circuitLength, operandsHold, gateWire}
-use Rattle.model.specs.Material.{lastStart, materialLength}
+use Rattle.model.specs.Aes.{Block, block}
+use Rattle.model.specs.Tokens.{Garbling, oneToken}
+use Rattle.model.specs.Ending.{Ending, endingOf}
+use Rattle.model.specs.Material.{lastStart, materialLength, hashed, lastBytes, zeroOf}
+use Rattle.model.specs.Evaluation.{bytesFor, storedAt}
 
 -- "A refusal is its number and a place"; `fine` is none
 pub data Verdict : Type 0 where
@@ -63,6 +68,10 @@ numberOf TextCounts = 23
 numberOf (TextOutput k) = 24
 numberOf (OutputMark k) = 25
 numberOf (OutputWire k) = 26
+numberOf (CommandOutside c) = 27
+numberOf NotReady = 28
+numberOf (OutputToken k) = 29
+numberOf (OutputHashes k) = 30
 
 abbrev pub placeOf : Refusal → ℕ
 placeOf (CircuitShort l) = l
@@ -91,6 +100,10 @@ placeOf TextCounts = 1
 placeOf (TextOutput k) = k
 placeOf (OutputMark k) = k
 placeOf (OutputWire k) = k
+placeOf (CommandOutside c) = c
+placeOf NotReady = 0
+placeOf (OutputToken k) = k
+placeOf (OutputHashes k) = k
 
 -- the verdict that a refusal of the code is
 abbrev pub verdictOf : Refusal → Verdict
@@ -178,6 +191,11 @@ tokensVerdict k ts = refuse (not (eqb (length ts) (16 * k))) 11 (length ts)
 unfoldable pub schemeVerdict : ℕ → Verdict
 schemeVerdict scheme = refuse (not (leb 1 scheme && leb scheme 4)) 14 scheme
 
+-- ---- 13 of an argument: "Refusal 13 admits both marks, also for that argument" (02, job 12)
+
+unfoldable pub markVerdict : ℕ → Verdict
+markVerdict mark = refuse (not (eqb mark 0x4748 || eqb mark 0x474A)) 13 0
+
 -- ---- 12 to 18: the material s, for a circuit. "Material is well-formed for a circuit if none of conditions 12 to 18 holds."
 
 -- n, m, q and p of a circuit
@@ -192,10 +210,10 @@ sameSizes z s = eqb (be16 s 3) (z .n) && eqb (be16 s 5) (z .m) && eqb (be16 s 7)
 unfoldable pub fileVerdict : Sizes → List ℕ → Verdict
 fileVerdict z s =
     refuse (ltb (length s) 9) 12 (length s)
-    then refuse (not (markAt s 0 0x47 0x48)) 13 0
+    then refuse (not (markAt s 0 0x47 0x48 || hashed s)) 13 0
     then schemeVerdict (getD s 2 0)
     then refuse (not (sameSizes z s)) 15 3
-    then refuse (not (eqb (length s) (materialLength (getD s 2 0) (z .m) (z .p)))) 16 (length s)
+    then refuse (not (eqb (length s) (materialLength (getD s 2 0) (lastBytes (hashed s) (z .m)) (z .p)))) 16 (length s)
 
 -- where the row record of gate k stands, or would stand: where the last record would start, were the charged gates before it all
 unfoldable pub rowStart : Circuit → List ℕ → ℕ → ℕ
@@ -210,15 +228,15 @@ unfoldable pub rowVerdict : Circuit → List ℕ → ℕ → Verdict
 rowVerdict c s k =
     refuse (isCharged (kindOf (codeAt c k)) && not (rowRecordAt s (rowStart c s k) (gateWire (c .n) k))) 17 (gateWire (c .n) k)
 
--- 18 of byte i of a last record that starts at an index
-unfoldable pub lastByteVerdict : List ℕ → ℕ → ℕ → Verdict
-lastByteVerdict s start i = refuse (ltb 1 (getD s (start + 2 + i) 0)) 18 start
+-- 18 of a last record that starts at an index and has m outputs: "The last record's mark is wrong or a byte of it exceeds 1 (its start)."; for 47 4A,
+-- "18 looks at the mark 47 41 only" (02, job 12)
+unfoldable pub storedVerdict : Ending → List ℕ → ℕ → ℕ → Verdict
+storedVerdict E s start i = refuse (E .wrong (bytesFor E s (start + 2) i)) 18 start
 
--- 18 of a last record that starts at an index and has m bytes: "The last record's mark is wrong or a byte of it exceeds 1 (its start)."
 unfoldable pub lastVerdict : List ℕ → ℕ → ℕ → Verdict
 lastVerdict s start m =
-    refuse (not (markAt s start 0x47 0x44)) 18 start
-    then firstOf (lastByteVerdict s start) m
+    refuse (not (markAt s start 0x47 (endingOf (hashed s) .lastMark))) 18 start
+    then firstOf (storedVerdict (endingOf (hashed s)) s start) m
 
 unfoldable pub materialVerdict : Circuit → List ℕ → Verdict
 materialVerdict c s =
@@ -238,3 +256,24 @@ pickVerdict zs os w bit =
     refuse (ltb 1 bit) 10 0
     then refuse (not (eqb (length zs) (length os) && eqb (length zs % 16) 0)) 11 (length zs)
     then refuse (not (leb 1 w && leb (16 * w) (length zs))) 20 w
+
+-- ---- 29 and 30 (02, job 12)
+
+-- 29 "when no hash agrees (first k)", of the outputs' tokens ts
+unfoldable pub tokenVerdict : Circuit → List Block → List ℕ → ℕ → Verdict
+tokenVerdict c ts s i = refuse (endingOf (hashed s) .unknown (i + 1) (getD ts i (block 0)) (storedAt c s i)) 29 (i + 1)
+
+unfoldable pub unknownVerdict : Circuit → List Block → List ℕ → Verdict
+unknownVerdict c ts s = firstOf (tokenVerdict c ts s) (length (c .outputs))
+
+module _ (γ : Garbling) where
+  -- what garbling stores of output i, from 0
+  unfoldable pub madeFor : ℕ → List ℕ
+  madeFor i = endingOf (γ .hashed) .stored (i + 1) (zeroOf γ (getD (γ .circuit .outputs) i 0)) (oneToken γ (zeroOf γ (getD (γ .circuit .outputs) i 0)))
+
+  -- 30 "when garbling finds both hashes of an output equal (first k)"
+  unfoldable pub clashAt : ℕ → Verdict
+  clashAt i = refuse (endingOf (γ .hashed) .clash (madeFor i)) 30 (i + 1)
+
+  unfoldable pub clashVerdict : Verdict
+  clashVerdict = firstOf clashAt (length (γ .circuit .outputs))

@@ -1,23 +1,31 @@
 -- Document 01, "Tokens", with the run number of document 02, job 4.
 use Prim.Native.Nat.{ℕ, _+_, _*_, _/_, _%_}
 use mathlib.Core.List.{List, _++_}
+use mathlib.Core.Bool.{Bool}
 use lib.Bits.{differ}
+use lib.Dec.{eqb}
 use lib.ListN.{getD, set}
 use Rattle.model.specs.declared.Wanted.{Wanted}
 use Rattle.model.specs.Bytes.{tabulate, bytesOf}
 use Rattle.model.specs.Circuit.{Circuit, circuitOf}
 use Rattle.model.specs.Aes.{Block, _⊕_, times, aes}
 
--- What a garbling is made from: the circuit, the seed, the run number, and the scheme by its byte.
+-- What a garbling is made from: the circuit, the seed, the run number, the scheme by its byte, and whether its material has the mark 47 4A and ends in
+-- hashes (02, job 12), or the mark 47 48 and ends in colours.
 pub record Garbling : Type 0 where
   pub circuit : Circuit
   pub seed : Block
   pub run : ℕ
   pub scheme : ℕ
+  pub hashed : Bool
+
+-- "Garbling takes the mark wanted" (02, job 12): whether it is 47 4A
+abbrev pub wantsHashes : Wanted → Bool
+wantsHashes want = eqb (want .mark) 0x474A
 
 -- the garbling of a circuit's bytes, as it is wanted
 abbrev pub garblingOf : List ℕ → List ℕ → Wanted → Garbling
-garblingOf c seed want = record { circuit = circuitOf c; seed = seed; run = want .run; scheme = want .scheme }
+garblingOf c seed want = record { circuit = circuitOf c; seed = seed; run = want .run; scheme = want .scheme; hashed = wantsHashes want }
 
 -- "the lowest bit of its last byte"
 unfoldable pub colour : Block → ℕ

@@ -57,6 +57,10 @@ pub enum Refusal {
     TextOutput(usize),
     OutputMark(usize),
     OutputWire(usize),
+    CommandOutside(u8),
+    NotReady,
+    OutputToken(usize),
+    OutputHashes(usize),
 }
 
 // A circuit's sizes: inputs, outputs, gates, charged gates (01, Circuit).
@@ -67,10 +71,12 @@ pub struct Sizes {
     pub p: usize,
 }
 
-// What garbling is asked for beside the circuit and the seed: the run number (02, job 4), and the scheme by its byte (01, Operations).
+// What garbling is asked for beside the circuit and the seed: the run number (02, job 4), the scheme by its byte (01, Operations), and the
+// material's mark (02, job 12), 47 48 or 47 4A.
 pub struct Wanted {
     pub run: u64,
     pub scheme: u8,
+    pub mark: u16,
 }
 
 // The answer of check.
