@@ -2,3 +2,4 @@
 pub mod Fill
 pub mod Words
 mod Buffer
+pub mod DifferLaws

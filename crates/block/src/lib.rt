@@ -5,9 +5,10 @@ pub use halves::Halves;
 use model::Colour;
 use model::Truth;
 ghost use mathlib.Core.Path.{_≡_};
+ghost use mathlib.Core.Bool.{cond};
 ghost use Prim.Native.Nat.{_+_, _*_, _≤_};
 ghost use lib.ListN.{length, take, drop};
-ghost use Rattle.model.specs.Bytes.{put};
+ghost use Rattle.model.specs.Bytes.{put, equalBytes};
 ghost use Rattle.model.specs.Aes.{_⊕_, block, double, quadruple};
 ghost use Rattle.model.specs.Hashes.{sigma};
 ghost use Rattle.model.specs.Tokens.{colour, coloured, decoded};
@@ -30,6 +31,16 @@ impl Block {
         ensures { λ r. ⌜ r .bytes ≡ self .bytes ⊕ other .bytes ⌝ }
     {
         Halves::of_block(self).xor(Halves::of_block(other)).block()
+    }
+
+    // 0 where the two are the same, and 1 where they differ. No branch goes by them.
+    pub fn differs(self, other: Block) -> u8
+        ensures { λ r. ⌜ r ≡ cond (equalBytes (self .bytes) (other .bytes)) 0 1 ⌝ }
+    {
+        let d = Halves::of_block(self).xor(Halves::of_block(other));
+        let x = d.high | d.low;
+        let y = x / 4294967296 + x % 4294967296;
+        ((y + 8589934591) / 8589934592) as u8
     }
 
     // The colour of a token is "the lowest bit of its last byte" (01, Tokens).

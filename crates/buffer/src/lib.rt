@@ -1,7 +1,7 @@
 // Bytes in lent buffers: big-endian numbers, and copies.
 ghost use mathlib.Core.Path.{_≡_};
 ghost use Prim.Native.Nat.{_+_, _<_, _≤_};
-ghost use lib.ListN.{length};
+ghost use lib.ListN.{length, replicate};
 ghost use Rattle.model.specs.Bytes.{be16, two, over, put};
 
 // A byte as a wider number.
@@ -46,4 +46,16 @@ pub fn copy_to(src: &[u8], dst: &mut [u8], at: usize)
     ensures { λ _. ⌜ now (dst .exit) ≡ put (now (dst .entry)) at (now (src .entry)) ⌝ }
 {
     copy_front(src, &mut dst[at..]);
+}
+
+// Zeros at the front of a buffer, as many as are named.
+pub fn zero_front(out: &mut [u8], len: usize)
+    requires { ⌜ len ≤ length (now out) ⌝ }
+    ensures { λ _. ⌜ now (out .exit) ≡ over (replicate len 0) (now (out .entry)) ⌝ }
+{
+    let mut j: usize = 0;
+    while j < len {
+        out[j] = 0;
+        j += 1;
+    }
 }

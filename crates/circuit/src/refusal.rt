@@ -45,5 +45,9 @@ pub fn number_and_place(f: Refusal) -> Turned
         Refusal::TextOutput(k) => numbered(24, k),
         Refusal::OutputMark(k) => numbered(25, k),
         Refusal::OutputWire(k) => numbered(26, k),
+        Refusal::CommandOutside(c) => numbered(27, c as usize),
+        Refusal::NotReady => numbered(28, 0),
+        Refusal::OutputToken(k) => numbered(29, k),
+        Refusal::OutputHashes(k) => numbered(30, k),
     }
 }

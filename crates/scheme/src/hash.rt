@@ -9,10 +9,12 @@ use model::Wire;
 use planes::Four;
 use planes::slice_pair;
 ghost use mathlib.Core.Path.{_≡_};
+ghost use Prim.Native.Nat.{_≤_};
 ghost use Rattle.aes.specs.Lent.{Lent};
 ghost use Rattle.aes.specs.Tables.{IsTTables};
 ghost use Rattle.model.specs.Aes.{IsSBox};
 ghost use Rattle.model.specs.Hashes.{hashBlock, hash, rekeyedHash, hashOf};
+ghost use Rattle.model.specs.Ending.{outputTweak};
 ghost use Rattle.model.specs.HalfGates.{generatorTweak, evaluatorTweak};
 ghost use Rattle.scheme.specs.Garbled.{FixedPlanes, AnswersAre, HashedFour, HashesAre};
 
@@ -67,6 +69,30 @@ fn fixed_four(k: &[u64; 88], a: Block, x: Block, i: u64, b: Block, y: Block, j: 
             d: z,
         },
     )
+}
+
+// Scheme 3's hash of two tokens of an output, by its number from 1: "t = 2 times (65,536+k)" (02, job 12). Two of four lanes are thrown away, and
+// nothing is looked up by a token. `fixed_four` has one caller, and stays in garble's loop.
+pub fn hash_output(k: &[u64; 88], x: Block, y: Block, number: usize) -> Answers
+    requires { ⌜ FixedPlanes (now k) ⌝ }
+    requires { ⌜ number ≤ 65536 ⌝ }
+    ensures { λ r. ⌜ AnswersAre (hash (x .bytes) (outputTweak number)) (hash (y .bytes) (outputTweak number)) r ⌝ }
+{
+    let i = 2 * (65536 + number as u64);
+    let u = hash_block(x, i);
+    let v = hash_block(y, i);
+    let h = masked_four(
+        k,
+        Four {
+            a: u,
+            b: v,
+            c: u,
+            d: v,
+        },
+    );
+    let x = h.a;
+    let y = h.b;
+    Answers { x, y, calls: 2 }
 }
 
 // Scheme 4's. The two keys are tweaks, which are public: the S-box in t is looked up for them, and for nothing else.

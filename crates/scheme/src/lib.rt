@@ -19,6 +19,7 @@ pub use gax::garble_gaxr;
 pub use gax::open_row;
 pub use half::garble_half;
 pub use half::open_half;
+pub use hash::hash_output;
 pub use hash::hash_pair;
 use model::Truth;
 use model::Wire;
