@@ -12,3 +12,4 @@ pub mod WellFormed
 pub mod ReadsOn
 pub mod WriterLaws
 pub mod AsSaid
+pub mod EndingLaws

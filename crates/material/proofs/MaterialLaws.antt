@@ -8,7 +8,7 @@ use Rattle.model.specs.declared.Sizes.{Sizes}
 use Rattle.model.specs.declared.Refusal.{Refusal}
 use Rattle.model.specs.declared.Ran.{Ran}
 use Rattle.model.specs.Circuit.{circuitOf, gates, charges}
-use Rattle.model.specs.Material.{lastStart}
+use Rattle.model.specs.Material.{lastStart, lastBytes, hashed}
 use Rattle.model.specs.Refusals.{Verdict, fine, refused, _then_, numberOf, placeOf, verdictOf, circuitSizes, fileVerdict, lastVerdict, materialVerdict}
 use Rattle.model.specs.Operations.{ranOf, sizesOf}
 use Rattle.model.proofs.Outputs.{outputs-many}
@@ -19,7 +19,7 @@ use Rattle.material.specs.declared.records.Cursor.{Cursor}
 use Rattle.material.specs.declared.records.Step.{Step}
 use Rattle.material.specs.Answers.{Filed, stepOf, recordsVerdict, recordsAnswer}
 use Rattle.material.proofs.SizeLaws.{inputs-same, gates-many}
-use Rattle.material.proofs.RowLaws.{last-ends, filed-holds}
+use Rattle.material.proofs.RowLaws.{last-low, last-ends, filed-holds}
 
 -- ---- the sizes that check gives are those of the circuit that the bytes are
 sizes-same : (c : List ℕ) → sizesOf c ≡ circuitSizes (circuitOf c)
@@ -58,7 +58,7 @@ module _ (c : List ℕ) (z : Sizes) (s : List ℕ) (known : Accepted c z) where
       filed = record { circuit = known; filed = sym (rw e at is-r) }
 
       -- the last record ends the material
-      start : lastStart (getD s 2 0) (charges (circuitOf c .gates)) + 2 + z .m ≡ length s
+      start : lastStart (getD s 2 0) (charges (circuitOf c .gates)) + 2 + lastBytes (hashed s) (z .m) ≡ length s
       start = rw (is-m c z known) (last-ends c s (filed-holds c z s filed .whole))
 
       -- 17 as it was tried, and where the reader is then
@@ -74,7 +74,7 @@ module _ (c : List ℕ) (z : Sizes) (s : List ℕ) (known : Accepted c z) where
           at-last = yes-given (recordsVerdict c s) (last .at) _ (rw i at is-t)
 
           pub last-inside : last .at + 2 + z .m ≤ length s
-          last-inside = omega (arith, start, at-last .is-result)
+          last-inside = omega (arith, start, last-low (hashed s) (z .m), at-last .is-result)
 
           pub material-last : (u : Ran) → ranOf u ≡ lastVerdict s (last .at) (z .m) → ranOf u ≡ materialVerdict (circuitOf c) s
           material-last u is-u = by-last c z s filed (at-last .is-fine) (ranOf u) (last .at) (at-last .is-result) is-u

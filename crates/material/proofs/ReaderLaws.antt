@@ -15,12 +15,14 @@ use Rattle.model.specs.Bytes.{be16}
 use Rattle.model.specs.Circuit.{markAt}
 use Rattle.model.specs.Scheme.{recordLength}
 use Rattle.model.specs.Garbling.{schemeOf}
+use Rattle.model.specs.Ending.{colours, hashes, endingOf}
+use Rattle.model.specs.Material.{hashed}
 use Rattle.model.specs.Refusals.{rowRecordAt}
 use Rattle.model.proofs.Places.{record-low}
 use Rattle.model.proofs.Verdicts.{and-both}
 use Rattle.material.specs.declared.reader.Standing.{Standing}
 use Rattle.material.specs.declared.reader.Record.{Record}
-use Rattle.material.specs.Reader.{ifSo, marked, gateStanding, standingAt, pastAt, isRowOf}
+use Rattle.material.specs.Reader.{ifSo, marked, gateStanding, lastStanding, standingAt, pastAt, isRowOf}
 
 -- ---- marks
 and-false : (a b : Bool) → b ≡ false → (a && b) ≡ false
@@ -29,9 +31,12 @@ and-false false b e = refl
 
 module _ (s : List ℕ) (at : ℕ) where
   -- a record with one mark has not the other
-  one-mark : markAt s at 0x47 0x44 ≡ true → markAt s at 0x47 0x54 ≡ false
-  unfolding markAt
-  one-mark e =
+  one-mark : (b : Bool) → markAt s at 0x47 (endingOf b .lastMark) ≡ true → markAt s at 0x47 0x54 ≡ false
+  unfolding markAt endingOf colours hashes
+  one-mark true e =
+      let both = and-both (eqb (getD s at 0) 0x47) (eqb (getD s (at + 1) 0) 0x41) e in
+      simp (eqb-true (getD s at 0) 0x47 (both .0), eqb-true (getD s (at + 1) 0) 0x41 (both .1))
+  one-mark false e =
       let both = and-both (eqb (getD s at 0) 0x47) (eqb (getD s (at + 1) 0) 0x44) e in
       simp (eqb-true (getD s at 0) 0x47 (both .0), eqb-true (getD s (at + 1) 0) 0x44 (both .1))
 
@@ -68,38 +73,49 @@ pub ruleset gate-cases = (stands-cut, stands-whole)
 module _ (s : List ℕ) (at : ℕ) where
   pub stands-past : length s < at → Standing.Nothing ≡ standingAt s at
   unfolding standingAt
-  stands-past h = simp (past-end s at 0x47 0x54 4 (omega arith), past-end s at 0x47 0x44 2 (omega arith))
+  stands-past h = simp (past-end s at 0x47 0x54 4 (omega arith), past-end s at 0x47 (endingOf (hashed s) .lastMark) 2 (omega arith))
 
   module _ (inside : at ≤ length s) where
     pub stands-short : length s - at < 2 → Standing.Nothing ≡ standingAt s at
     unfolding standingAt
-    stands-short h = simp (past-end s at 0x47 0x54 4 (omega arith), past-end s at 0x47 0x44 2 (omega arith))
+    stands-short h = simp (past-end s at 0x47 0x54 4 (omega arith), past-end s at 0x47 (endingOf (hashed s) .lastMark) 2 (omega arith))
 
-    module _ (two : 2 ≤ length s - at) (b : Bool) (is-b : b ≡ markAt s at 0x47 0x44) where
+    pub stands-brief : length s - at < 4 → (r : Standing) → r ≡ lastStanding s at → r ≡ standingAt s at
+    unfolding standingAt
+    stands-brief h r is-r = is-r ∙ simp (past-end s at 0x47 0x54 4 (omega arith))
+
+    module _ (four : 4 ≤ length s - at) (e : Bool) (is-e : e ≡ markAt s at 0x47 0x54) where
+      pub stands-gate : e ≡ true → (r : Standing) → r ≡ gateStanding s at → r ≡ standingAt s at
+      unfolding standingAt
+      stands-gate h r is-r = is-r ∙ simp (stands s at 0x47 0x54 4 (omega arith) (sym is-e ∙ h))
+
+      pub stands-other : e ≡ false → (r : Standing) → r ≡ lastStanding s at → r ≡ standingAt s at
+      unfolding standingAt
+      stands-other h r is-r = is-r ∙ simp (other s at 0x47 0x54 4 (sym is-e ∙ h))
+
+    -- its mark at a place tells that the last record stands there
+    module _ (two : 2 ≤ length s - at) (x : ℕ) (is-x : x ≡ endingOf (hashed s) .lastMark) (b : Bool) (is-b : b ≡ markAt s at 0x47 x) where
       pub stands-last : b ≡ true → Standing.Last ≡ standingAt s at
       unfolding standingAt
       stands-last e =
-          let m : markAt s at 0x47 0x44 ≡ true = sym is-b ∙ e in
-          simp (other s at 0x47 0x54 4 (one-mark s at m), stands s at 0x47 0x44 2 (omega arith) m)
+          let m : markAt s at 0x47 (endingOf (hashed s) .lastMark) ≡ true = sym (is-b ∙ ap (markAt s at 0x47) is-x) ∙ e in
+          simp (other s at 0x47 0x54 4 (one-mark s at (hashed s) m), stands s at 0x47 (endingOf (hashed s) .lastMark) 2 (omega arith) m)
 
-      module _ (d : b ≡ false) where
-        no-last : marked s at 0x47 0x44 2 ≡ false
-        no-last = other s at 0x47 0x44 2 (sym is-b ∙ d)
+-- ---- last_standing: the mark as it was tried
+module _ (s : List ℕ) (at : ℕ) (room : at + 2 ≤ length s) (h : Bool) (is-h : h ≡ hashed s) (x : ℕ) (is-x : x ≡ endingOf h .lastMark)
+    (b : Bool) (is-b : b ≡ markAt s at 0x47 x) where
+  mark-is : b ≡ markAt s at 0x47 (endingOf (hashed s) .lastMark)
+  mark-is = is-b ∙ rw (is-x, is-h)
 
-        pub stands-brief : length s - at < 4 → Standing.Nothing ≡ standingAt s at
-        unfolding standingAt
-        stands-brief h = simp (past-end s at 0x47 0x54 4 (omega arith), no-last)
+  pub last-found : b ≡ true → Standing.Last ≡ lastStanding s at
+  last-found e = simp (stands s at 0x47 (endingOf (hashed s) .lastMark) 2 room (sym mark-is ∙ e))
 
-        module _ (four : 4 ≤ length s - at) (e : Bool) (is-e : e ≡ markAt s at 0x47 0x54) where
-          pub stands-gate : e ≡ true → (r : Standing) → r ≡ gateStanding s at → r ≡ standingAt s at
-          unfolding standingAt
-          stands-gate h r is-r = is-r ∙ simp (stands s at 0x47 0x54 4 (omega arith) (sym is-e ∙ h))
+  pub last-missed : b ≡ false → Standing.Nothing ≡ lastStanding s at
+  last-missed e = simp (other s at 0x47 (endingOf (hashed s) .lastMark) 2 (sym mark-is ∙ e))
 
-          pub stands-other : e ≡ false → Standing.Nothing ≡ standingAt s at
-          unfolding standingAt
-          stands-other h = simp (other s at 0x47 0x54 4 (sym is-e ∙ h), no-last)
+pub ruleset last-cases = (last-found, last-missed)
 
-pub ruleset standing-cases = (stands-past, stands-short, stands-last, stands-brief, stands-gate, stands-other)
+pub ruleset standing-cases = (stands-past, stands-short, stands-brief, stands-gate, stands-other)
 
 -- ---- past_at, of what was found
 module _ (s : List ℕ) (at : ℕ) where
@@ -116,7 +132,7 @@ module _ (s : List ℕ) (at : ℕ) where
       unfolding standingAt gateStanding
       gate-inside =
           leb-true (at + recordLength (schemeOf (getD s 2 0))) (length s)
-          (whole-gate (marked s at 0x47 0x54 4) (leb (at + recordLength (schemeOf (getD s 2 0))) (length s)) (marked s at 0x47 0x44 2) (record { 0 = be16 s (at + 2) }) w (sym e ∙ is-r))
+          (whole-gate (marked s at 0x47 0x54 4) (leb (at + recordLength (schemeOf (getD s 2 0))) (length s)) (marked s at 0x47 (endingOf (hashed s) .lastMark) 2) (record { 0 = be16 s (at + 2) }) w (sym e ∙ is-r))
 
       pub scheme-inside : 2 < length s
       scheme-inside = omega (arith, gate-inside, record-low (getD s 2 0))
@@ -170,7 +186,7 @@ module _ (s : List ℕ) (at : ℕ) where
   unfolding standingAt gateStanding marked rowRecordAt
   row-record due h =
       simp (le-leb _ _ h)
-      (of-mark (markAt s at 0x47 0x54) (leb (at + recordLength (schemeOf (getD s 2 0))) (length s)) (leb (at + 2) (length s) && markAt s at 0x47 0x44) due (record { 0 = be16 s (at + 2) }))
+      (of-mark (markAt s at 0x47 0x54) (leb (at + recordLength (schemeOf (getD s 2 0))) (length s)) (leb (at + 2) (length s) && markAt s at 0x47 (endingOf (hashed s) .lastMark)) due (record { 0 = be16 s (at + 2) }))
 
   of-whole : (m c : Bool) (due : ℕ) (w : Wire) → isRowOf due (ifSo m (Standing.Gate w) (ifSo c Standing.Last Standing.Nothing)) ≡ (m && eqb (w .0) due)
   of-whole true c due w = refl
@@ -183,7 +199,7 @@ module _ (s : List ℕ) (at : ℕ) where
     unfolding standingAt gateStanding marked rowRecordAt
     whole-record =
         let four : at + 4 ≤ length s = omega (arith, record-low (getD s 2 0)) in
-        simp (le-leb _ _ room, le-leb _ _ four) (of-whole (markAt s at 0x47 0x54) (leb (at + 2) (length s) && markAt s at 0x47 0x44) due (record { 0 = be16 s (at + 2) }))
+        simp (le-leb _ _ room, le-leb _ _ four) (of-whole (markAt s at 0x47 0x54) (leb (at + 2) (length s) && markAt s at 0x47 (endingOf (hashed s) .lastMark)) due (record { 0 = be16 s (at + 2) }))
 
     pub record-stands : rowRecordAt s at due ≡ true → standingAt s at ≡ Standing.Gate (record { 0 = due })
     unfolding standingAt gateStanding rowRecordAt
@@ -197,11 +213,11 @@ module _ (s : List ℕ) (at : ℕ) where
   no-mark false b c w e = rw e
 
   -- where the mark lies within the material
-  pub last-record : at + 2 ≤ length s → isLast (standingAt s at) ≡ markAt s at 0x47 0x44
+  pub last-record : at + 2 ≤ length s → isLast (standingAt s at) ≡ markAt s at 0x47 (endingOf (hashed s) .lastMark)
   unfolding standingAt gateStanding
-  last-record h = go (markAt s at 0x47 0x44) refl
+  last-record h = go (markAt s at 0x47 (endingOf (hashed s) .lastMark)) refl
     where
-      go : (b : Bool) → b ≡ markAt s at 0x47 0x44 → isLast (standingAt s at) ≡ b
-      go true e = ap isLast (sym (stands-last s at (omega arith) (omega arith) true e refl))
+      go : (b : Bool) → b ≡ markAt s at 0x47 (endingOf (hashed s) .lastMark) → isLast (standingAt s at) ≡ b
+      go true e = ap isLast (sym (stands-last s at (omega arith) (omega arith) _ refl true e refl))
       go false e =
-          no-mark (marked s at 0x47 0x54 4) (leb (at + recordLength (schemeOf (getD s 2 0))) (length s)) (marked s at 0x47 0x44 2) (record { 0 = be16 s (at + 2) }) (other s at 0x47 0x44 2 (sym e))
+          no-mark (marked s at 0x47 0x54 4) (leb (at + recordLength (schemeOf (getD s 2 0))) (length s)) (marked s at 0x47 (endingOf (hashed s) .lastMark) 2) (record { 0 = be16 s (at + 2) }) (other s at 0x47 (endingOf (hashed s) .lastMark) 2 (sym e))

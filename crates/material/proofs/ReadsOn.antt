@@ -14,7 +14,8 @@ use Rattle.model.specs.Bytes.{tabulate}
 use Rattle.model.specs.Circuit.{circuitOf, inputs, outputs, gates, gateAt, gateWire, kindOf, charge, charges, markAt}
 use Rattle.model.specs.Scheme.{recordLength}
 use Rattle.model.specs.Garbling.{schemeOf}
-use Rattle.model.specs.Material.{lastStart}
+use Rattle.model.specs.Ending.{endingOf}
+use Rattle.model.specs.Material.{lastStart, lastBytes, hashed}
 use Rattle.model.specs.Refusals.{fine, rowStart, rowRecordAt, rowVerdict, lastVerdict, materialVerdict}
 use Rattle.model.proofs.Lists.{tabulate-snoc}
 use Rattle.model.proofs.Circuits.{charges-snoc, charge-le}
@@ -35,10 +36,10 @@ pub record ReadsOn (c s : List ℕ) : Type 0 where
       → foundRecord s (rowStart (circuitOf c) s k) ≡ record { standing = Standing.Gate (record { 0 = gateWire (inputs c) k }); next = rowStart (circuitOf c) s (k + 1) }
   -- a gate that is not charged has none, and the reader stays where it is
   pub no-record : (k : ℕ) → k < gates c → charge (kindOf (gateAt c k .code)) ≡ 0 → rowStart (circuitOf c) s (k + 1) ≡ rowStart (circuitOf c) s k
-  -- past them all the last record, which has a byte for each output after its mark; past it the end
+  -- past them all the last record, which has a byte or two hashes for each output after its mark; past it the end
   pub last : foundRecord s (rowStart (circuitOf c) s (gates c)) ≡ record { standing = Standing.Last; next = length s }
   pub last-place : rowStart (circuitOf c) s (gates c) ≡ lastStart (getD s 2 0) (charges (circuitOf c .gates))
-  pub last-long : rowStart (circuitOf c) s (gates c) + 2 + outputs c ≡ length s
+  pub last-long : rowStart (circuitOf c) s (gates c) + 2 + lastBytes (hashed s) (outputs c) ≡ length s
 
 module _ (c s : List ℕ) (e : materialVerdict (circuitOf c) s ≡ fine) where
   file : FileHolds c s
@@ -61,15 +62,15 @@ module _ (c s : List ℕ) (e : materialVerdict (circuitOf c) s ≡ fine) where
     past : pastAt s (rowStart (circuitOf c) s k) ≡ rowStart (circuitOf c) s (k + 1)
     past = rw (stands, row-next c s k h, one) (omega arith)
 
-  start-last : rowStart (circuitOf c) s (gates c) + 2 + outputs c ≡ length s
+  start-last : rowStart (circuitOf c) s (gates c) + 2 + lastBytes (hashed s) (outputs c) ≡ length s
   start-last = rw (row-end c s) (last-ends c s (file .whole))
 
-  mark-last : markAt s (rowStart (circuitOf c) s (gates c)) 0x47 0x44 ≡ true
+  mark-last : markAt s (rowStart (circuitOf c) s (gates c)) 0x47 (endingOf (hashed s) .lastMark) ≡ true
   unfolding materialVerdict lastVerdict
   mark-last = rw (row-end c s) (not-false _ (refuse-fine _ _ _ (then-fine _ _ (then-fine _ _ e .1) .0)))
 
   stands-at-last : standingAt s (rowStart (circuitOf c) s (gates c)) ≡ Standing.Last
-  stands-at-last = sym (stands-last s (rowStart (circuitOf c) s (gates c)) (omega (arith, start-last)) (omega (arith, start-last)) true (sym mark-last) refl)
+  stands-at-last = sym (stands-last s (rowStart (circuitOf c) s (gates c)) (omega (arith, start-last)) (omega (arith, start-last)) _ refl true (sym mark-last) refl)
 
   pub reads-on : ReadsOn c s
   reads-on = record {

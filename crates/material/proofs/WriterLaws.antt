@@ -9,9 +9,9 @@ use Rattle.model.proofs.Buffers.{over-put, put-put}
 
 module _ (o a b : List ℕ) where
   -- the header: the mark and the scheme byte, then n, m and q
-  pub header-written : (c d : List ℕ) (s n m q : ℕ) → 9 ≤ length o → a ≡ over (0x47 ∷ 0x48 ∷ s ∷ []) o → b ≡ put a 3 (two n) → c ≡ put b 5 (two m)
-      → d ≡ put c 7 (two q) → d ≡ over (0x47 ∷ 0x48 ∷ s ∷ two n ++ two m ++ two q) o
-  header-written c d s n m q l e f g h =
+  pub header-written : (c d : List ℕ) (y s n m q : ℕ) → 9 ≤ length o → a ≡ over (0x47 ∷ y ∷ s ∷ []) o → b ≡ put a 3 (two n) → c ≡ put b 5 (two m)
+      → d ≡ put c 7 (two q) → d ≡ over (0x47 ∷ y ∷ s ∷ two n ++ two m ++ two q) o
+  header-written c d y s n m q l e f g h =
       rw (h, g, f, e, over-put _ o (two n) 3 refl (omega arith), over-put _ o (two m) 5 refl (omega arith)) (over-put _ o (two q) 7 refl (omega arith))
 
   -- a row record's head: the mark, then the wire number

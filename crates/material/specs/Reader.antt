@@ -7,6 +7,8 @@ use lib.ListN.{length, getD}
 use lib.Dec.{leb, eqb}
 use Rattle.model.specs.Bytes.{be16}
 use Rattle.model.specs.Circuit.{markAt}
+use Rattle.model.specs.Ending.{endingOf}
+use Rattle.model.specs.Material.{hashed}
 use Rattle.model.specs.Scheme.{recordLength}
 use Rattle.model.specs.Garbling.{schemeOf}
 use Rattle.material.specs.declared.reader.Standing.{Standing}
@@ -26,9 +28,13 @@ marked s at x y bytes = leb (at + bytes) (length s) && markAt s at x y
 unfoldable pub gateStanding : List ℕ → ℕ → Standing
 gateStanding s at = ifSo (leb (at + recordLength (schemeOf (getD s 2 0))) (length s)) (Gate (record { 0 = be16 s (at + 2) })) (Cut (record { 0 = be16 s (at + 2) }))
 
--- a gate's record, by its mark and wire number; "Last: mark 47 44"; or neither
+-- the last record, or nothing
+abbrev pub lastStanding : List ℕ → ℕ → Standing
+lastStanding s at = ifSo (marked s at 0x47 (endingOf (hashed s) .lastMark) 2) Last Nothing
+
+-- a gate's record, by its mark and wire number; "Last: mark 47 44", or 47 41 where the header's mark is 47 4A (02, job 12); or neither
 unfoldable pub standingAt : List ℕ → ℕ → Standing
-standingAt s at = ifSo (marked s at 0x47 0x54 4) (gateStanding s at) (ifSo (marked s at 0x47 0x44 2) Last Nothing)
+standingAt s at = ifSo (marked s at 0x47 0x54 4) (gateStanding s at) (lastStanding s at)
 
 -- the place past what stands at a place: past a gate's record, the next; past the last one, the end; nothing else is gone past
 abbrev pub pastOf : List ℕ → ℕ → Standing → ℕ

@@ -2,9 +2,12 @@
 ghost use mathlib.Core.Path.{_≡_};
 ghost use Prim.Native.Nat.{_≤_};
 ghost use lib.ListN.{length};
+ghost use Rattle.model.specs.Material.{hashed, lastBytes, materialLength};
 ghost use Rattle.model.specs.Refusals.{sameSizes, fileVerdict};
 ghost use Rattle.model.specs.Operations.{ranOf};
-use crate::marks::mark_at;
+use crate::ending::is_hashed;
+use crate::ending::known_mark;
+use crate::ending::last_bytes;
 use crate::material_length;
 use buffer::read16;
 use circuit::arguments::check_scheme;
@@ -26,6 +29,15 @@ fn same_sizes(material: &[u8], z: Sizes) -> bool
     read16(material, 7) as usize == z.q
 }
 
+// The length that is due, by the material's mark.
+fn due_length(material: &[u8], scheme: u8, z: Sizes) -> usize
+    requires { ⌜ (z .m ≤ 65535) × (z .p ≤ 65535) ⌝ }
+    ensures { λ r. ⌜ r ≡ materialLength scheme (lastBytes (hashed (now (material .entry))) (z .m)) (z .p) ⌝ }
+{
+    let last = last_bytes(is_hashed(material), z.m);
+    material_length(scheme, last, z.p)
+}
+
 // The first of refusals 12 to 16, of a material for a circuit of these sizes.
 pub fn check_file(material: &[u8], z: Sizes) -> Ran
     requires { ⌜ (z .m ≤ 65535) × (z .p ≤ 65535) ⌝ }
@@ -35,7 +47,7 @@ pub fn check_file(material: &[u8], z: Sizes) -> Ran
     if len < 9 {
         return Ran::Refused(Refusal::MaterialShort(len));
     }
-    if !mark_at(material, 0, 0x47, 0x48) {
+    if !known_mark(material) {
         return Ran::Refused(Refusal::MaterialMark);
     }
     let scheme = material[2];
@@ -45,7 +57,7 @@ pub fn check_file(material: &[u8], z: Sizes) -> Ran
             if !same_sizes(material, z) {
                 return Ran::Refused(Refusal::MaterialSizes);
             }
-            if len != material_length(scheme, z.m, z.p) {
+            if len != due_length(material, scheme, z) {
                 return Ran::Refused(Refusal::MaterialLength(len));
             }
             Ran::Done

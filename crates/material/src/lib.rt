@@ -15,6 +15,7 @@ use crate::records::check_records;
 use model::Ran;
 use model::Sizes;
 
+pub mod ending;
 pub mod file;
 pub mod last;
 pub mod marks;
@@ -48,12 +49,12 @@ pub fn last_start(scheme: u8, p: usize) -> usize
     9 + p * record_length(scheme)
 }
 
-// The material's length 11+m+p(4+16r), for m outputs and p charged gates: the last record has its mark and m bytes.
-pub fn material_length(scheme: u8, m: usize, p: usize) -> usize
-    requires { ⌜ (m ≤ 65535) × (p ≤ 65535) ⌝ }
-    ensures { λ r. ⌜ r ≡ materialLength scheme m p ⌝ }
+// The material's length, for p charged gates, where the last record has so many bytes after its mark.
+pub fn material_length(scheme: u8, last: usize, p: usize) -> usize
+    requires { ⌜ (last ≤ 2097120) × (p ≤ 65535) ⌝ }
+    ensures { λ r. ⌜ r ≡ materialLength scheme last p ⌝ }
 {
-    last_start(scheme, p) + 2 + m
+    last_start(scheme, p) + 2 + last
 }
 
 // Whether a material is well-formed for an accepted circuit of these sizes, or the first of refusals 12 to 18.

@@ -5,7 +5,9 @@
 ghost use mathlib.Core.Path.{_≡_};
 ghost use Prim.Native.Nat.{_+_, _≤_};
 ghost use lib.ListN.{length};
-ghost use Rattle.material.specs.Reader.{gateStanding, standingAt, pastAt, foundRecord};
+ghost use Rattle.material.specs.Reader.{gateStanding, lastStanding, standingAt, pastAt, foundRecord};
+use crate::ending::is_hashed;
+use crate::ending::last_mark;
 use crate::marks::mark_at;
 use crate::record_length;
 use buffer::read16;
@@ -48,6 +50,18 @@ fn gate_standing(material: &[u8], at: usize) -> Standing
     }
 }
 
+// The last record at a place where no gate's record stands: by the header's mark, which is asked here alone and not at each gate.
+fn last_standing(material: &[u8], at: usize) -> Standing
+    requires { ⌜ at + 2 ≤ length (now material) ⌝ }
+    ensures { λ r. ⌜ r ≡ lastStanding (now (material .entry)) at ⌝ }
+{
+    let mark = last_mark(is_hashed(material));
+    if mark_at(material, at, 0x47, mark) {
+        return Standing::Last;
+    }
+    Standing::Nothing
+}
+
 // What stands at a place, for any bytes and any place.
 pub fn standing_at(material: &[u8], at: usize) -> Standing
     ensures { λ r. ⌜ r ≡ standingAt (now (material .entry)) at ⌝ }
@@ -60,16 +74,13 @@ pub fn standing_at(material: &[u8], at: usize) -> Standing
     if left < 2 {
         return Standing::Nothing;
     }
-    if mark_at(material, at, 0x47, 0x44) {
-        return Standing::Last;
-    }
     if left < 4 {
-        return Standing::Nothing;
+        return last_standing(material, at);
     }
     if mark_at(material, at, 0x47, 0x54) {
         return gate_standing(material, at);
     }
-    Standing::Nothing
+    last_standing(material, at)
 }
 
 // The place past what stands at a place, for any bytes and any place.

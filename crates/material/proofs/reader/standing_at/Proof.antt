@@ -7,5 +7,4 @@ pub standing-at-spec : {M : Type 1} → statement M
 standing-at-spec =
     tie.close
     (tie.spec (λ c. search standing-cases) (λ c. search standing-cases) (λ c κs. search needs) (λ c. search standing-cases)
-    (λ c. search standing-cases) (λ c κs. search needs) (λ c κs. search needs) (λ c. search standing-cases)
-    (λ c. search standing-cases))
+    (λ c κs. search needs) (λ c κs. search needs) (λ c. search standing-cases) (λ c κs. search needs) (λ c. search standing-cases))
