@@ -13,3 +13,4 @@ pub mod LastLaws
 pub mod BodyLaws
 pub mod WholeLaws
 pub mod GarbleIsLaws
+pub mod ClashLaws

@@ -83,7 +83,7 @@ module _ (c seed : List ℕ) (want : Wanted) (plan : Plan) (walk : WalkOf c seed
       own-is : g .own .0 ≡ suc (length (zerosTo c seed want k))
       own-is = is-g .is-own ∙ omega (arith, blocks-length (zeros-many k), walk .plan-is .is-n)
 
-      site-is : siteAt plan g ≡ siteOf (garblingOf c seed want) (zerosTo c seed want k) (gateAt c k)
+      pub site-is : siteAt plan g ≡ siteOf (garblingOf c seed want) (zerosTo c seed want k) (gateAt c k)
       unfolding siteAt siteOf seedBlock
       site-is = rw (walk .plan-is .is-seed, walk .plan-is .is-wanted, offset-is, own-is, is-g .is-code, xa-is, xb-is)
 
@@ -98,7 +98,7 @@ module _ (c seed : List ℕ) (want : Wanted) (plan : Plan) (walk : WalkOf c seed
 
         -- ---- a charged gate
         module _ (u v x : Truth) (e : kind ≡ Kinds.Kind.Charged u v x) where
-          charged-is : kindOf (gateAt c k .code) ≡ charged (u .0) (v .0) (x .0)
+          pub charged-is : kindOf (gateAt c k .code) ≡ charged (u .0) (v .0) (x .0)
           charged-is = code-kind ∙ ap meaning e
 
           room : at + recordLength (schemeOf (want .scheme)) ≤ length m

@@ -2,17 +2,20 @@
 use Prim.Native.Nat.{ℕ, _+_, _*_, _≤_}
 use native.Mathlib.Omega.{arith}
 use mathlib.Core.Path.{_≡_, sym, ap, _∙_}
-use mathlib.Core.List.{List}
+use mathlib.Core.Bool.{Bool, true, false}
+use mathlib.Core.List.{List, _∷_, _++_}
 use lib.ListN.{length, take, drop}
 use lib.Seq.{take-all, take-at}
 use Rattle.model.specs.declared.Sizes.{Sizes}
 use Rattle.model.specs.declared.Wanted.{Wanted}
-use Rattle.model.specs.Bytes.{over}
+use Rattle.model.specs.Bytes.{over, two}
 use Rattle.model.specs.Circuit.{charges, circuitOf, inputs, outputs, gates}
 use Rattle.model.specs.Aes.{Block, IsExpansion}
-use Rattle.model.specs.Tokens.{garblingOf, seedBlock, offset, inputZeros, oneToken}
+use Rattle.model.specs.Tokens.{wantsHashes, garblingOf, seedBlock, offset, inputZeros, oneToken}
 use Rattle.model.specs.Garbling.{zeroTokens, inputOnes}
-use Rattle.model.specs.Material.{joinBlocks, materialLength, header, material}
+use Rattle.model.specs.Ending.{colours, hashes, endingOf}
+use Rattle.model.specs.Material.{joinBlocks, lastBytes, materialLength, header, material}
+use Rattle.model.specs.Operations.{fileLength}
 use Rattle.model.proofs.Lists.{tabulate-length, tabulate-map}
 use Rattle.model.proofs.Expansion.{expansion-only}
 use Rattle.model.proofs.Buffers.{over-length, over-over}
@@ -23,10 +26,14 @@ use Rattle.circuit.proofs.AcceptedLaws as Sized
 use Rattle.garble.specs.declared.plan.Plan.{Plan}
 use Rattle.planes.specs.Sliced.{IsSliced}
 use Rattle.garble.specs.Held.{SeedPlanes}
-use Rattle.garble.specs.Written.{inputZero}
+use Rattle.garble.specs.Written.{inputZero, InputsIs}
 use Rattle.garble.specs.Walk.{PlanIs, WalkOf, FrontStart, FrontIs, BodyStart, BodyIs}
 use Rattle.garble.specs.Whole.{WholeStart, WholeIs}
 use Rattle.garble.proofs.WalkLaws.{zeros-long}
+
+pub front-done : (p : Plan) (n outs q : ℕ) (m z o m′ z′ o′ : List ℕ) → InputsIs p z o z′ o′ → (t : Bool) → t ≡ wantsHashes (p .wanted) → (h : ℕ) → h ≡ endingOf t .headerMark
+    → m′ ≡ over (0x47 ∷ h ∷ p .wanted .scheme ∷ two n ++ two outs ++ two q) m → FrontIs p n outs q m z o m′ z′ o′
+front-done p n outs q m z o m′ z′ o′ done t is-t h is-h e = record { inputs-are = done; header-is = rw (← is-t, ← is-h) e }
 
 module _ (c seed : List ℕ) (want : Wanted) (s : Sizes) (m z o : List ℕ) (start : WholeStart c seed want s m z o) where
   is-n : s .n ≡ inputs c
@@ -39,12 +46,22 @@ module _ (c seed : List ℕ) (want : Wanted) (s : Sizes) (m z o : List ℕ) (sta
   is-q = Sized.is-q c s (start .sized)
 
   front-start : FrontStart (s .n) m z o
-  unfolding materialLength
+  unfolding fileLength materialLength
   front-start = record {
     header-room = omega (arith, start .file-room);
     zeros-room = omega (arith, start .wires-room, is-n);
     ones-room = omega (arith, start .inputs-room, is-n);
   }
+
+  -- the hashes take no less room than the colours
+  colours-room : (b : Bool) → outputs c ≤ lastBytes b (outputs c)
+  unfolding lastBytes endingOf colours hashes
+  colours-room true = omega arith
+  colours-room false = omega arith
+
+  least-room : materialLength (want .scheme) (outputs c) (charges (circuitOf c .gates)) ≤ length m
+  unfolding fileLength materialLength
+  least-room = omega (arith, start .file-room, colours-room (wantsHashes want))
 
   -- a seed is its own front, and its schedule is put in planes
   own-front : (k : Block) → k ≡ take 16 (drop 0 seed) → k ≡ seed
@@ -110,11 +127,12 @@ module _ (c seed : List ℕ) (want : Wanted) (s : Sizes) (m z o : List ℕ) (sta
         sized = start .sized;
         gates-start = record {
           is-q = is-q;
-          file-room = rw material-same (start .file-room);
+          file-room = rw material-same least-room;
           wires-room = rw zeros-same (start .wires-room);
           header-front = rw header-is (take-at (header (garblingOf c seed want)) _ 9 header-long);
           inputs-front = rw zeros-are (take-at (joinBlocks (inputZeros (garblingOf c seed want))) _ (16 * inputs c) inputs-long);
         };
+        file-room = rw material-same (start .file-room);
       }
 
       -- the body as it was written
@@ -122,11 +140,12 @@ module _ (c seed : List ℕ) (want : Wanted) (s : Sizes) (m z o : List ℕ) (sta
         done : BodyIs c seed want m1 z1 m2 z2 calls
         done = rw (is-plan .is-seed, is-plan .is-wanted, is-seed) at body
 
-        material-long : length (material (garblingOf c seed want)) ≡ materialLength (want .scheme) (outputs c) (charges (circuitOf c .gates))
+        material-long : length (material (garblingOf c seed want)) ≡ fileLength c want
+        unfolding fileLength
         material-long = rw (outputs-many c) at (material-length (garblingOf c seed want))
 
         header-within : 9 ≤ length (material (garblingOf c seed want))
-        unfolding materialLength
+        unfolding fileLength materialLength
         header-within = omega (arith, material-long)
 
         pub whole-done : WholeIs c seed want m z o m2 z2 o1 calls

@@ -5,3 +5,4 @@ pub mod Held
 pub mod Written
 pub mod Walk
 pub mod Whole
+pub mod Clash

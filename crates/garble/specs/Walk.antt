@@ -1,19 +1,22 @@
 -- The walk over the gates: what it starts from, and what one gate leaves in the buffers.
-use Prim.Native.Nat.{ℕ, _+_, _*_, _≤_, _<_}
+use Prim.Native.Nat.{ℕ, suc, _+_, _*_, _≤_, _<_}
 use mathlib.Core.Path.{_≡_}
+use mathlib.Core.Bool.{Bool, cond}
 use mathlib.Core.List.{List, [], _∷_, _++_}
 use lib.ListN.{length, take}
 use Rattle.model.specs.declared.Sizes.{Sizes}
 use Rattle.model.specs.declared.Wanted.{Wanted}
 use Rattle.model.specs.Bytes.{tabulate, over, put, two}
 use Rattle.model.specs.Circuit.{charged, charge, charges, kindOf, circuitOf, inputs, outputs, gates, gateAt, gateWire, wires}
-use Rattle.model.specs.Aes.{Block, aes}
-use Rattle.model.specs.Tokens.{garblingOf, coloured, runBlock, inputZeros}
+use Rattle.model.specs.Aes.{Block, _⊕_, aes}
+use Rattle.model.specs.Tokens.{wantsHashes, garblingOf, coloured, runBlock, inputZeros}
 use Rattle.model.specs.Scheme.{Site, recordLength}
 use Rattle.model.specs.Garbling.{Known, schemeOf, siteOf, zeroStep, zeroTokens}
-use Rattle.model.specs.Material.{joinBlocks, lastStart, materialLength, header, recordOf, records, material}
+use Rattle.model.specs.Ending.{Ending, endingOf}
+use Rattle.model.specs.Material.{joinBlocks, lastStart, lastBytes, materialLength, header, recordOf, records, material}
 use Rattle.model.specs.Evaluation.{tokenAt}
-use Rattle.model.specs.Calls.{garbledCalls, garbleCallsAt, garbleCalls}
+use Rattle.model.specs.Calls.{garbledCalls, garbleCallsAt, garbleCalls, outputCalls}
+use Rattle.model.specs.Operations.{fileLength}
 use Rattle.model.specs.Refusals.{fine, circuitVerdict}
 use Rattle.circuit.specs.Accepted.{Accepted}
 use Rattle.garble.specs.Written.{InputsIs}
@@ -133,6 +136,32 @@ pub record ColoursStart (c : List ℕ) (s : Sizes) (z f : List ℕ) (at : ℕ) :
   pub tokens : 16 * (inputs c + gates c) ≤ length z
   pub room : at + s .m ≤ length f
 
+-- the same, and room for two hashes of each output
+pub record HashesStart (c : List ℕ) (s : Sizes) (z f : List ℕ) (at : ℕ) : Type 0 where
+  pub sized : Accepted c s
+  pub tokens : 16 * (inputs c + gates c) ≤ length z
+  pub room : at + 32 * s .m ≤ length f
+
+-- what is stored of the outputs ws, from number k on, with their zero tokens in z, by the offset R
+unfoldable pub storedFrom : Ending → List ℕ → Block → ℕ → List ℕ → List ℕ
+storedFrom E z R k [] = []
+storedFrom E z R k (w ∷ ws) = E .stored k (tokenAt z w) (tokenAt z w ⊕ R) ++ storedFrom E z R (suc k) ws
+
+-- the last record, by whether it has hashes
+unfoldable pub lastOf : List ℕ → Block → List ℕ → Bool → List ℕ
+lastOf c R z by-hash = 0x47 ∷ endingOf by-hash .lastMark ∷ storedFrom (endingOf by-hash) z R 1 (circuitOf c .outputs)
+
+-- room for it, by the mark wanted
+pub record LastStart (c : List ℕ) (want : Wanted) (s : Sizes) (z f : List ℕ) (at : ℕ) : Type 0 where
+  pub sized : Accepted c s
+  pub tokens : 16 * (inputs c + gates c) ≤ length z
+  pub room : at + 2 + lastBytes (wantsHashes want) (s .m) ≤ length f
+
+-- it as it was written, and the encryptions made
+pub record LastIs (c : List ℕ) (want : Wanted) (R : Block) (z f : List ℕ) (at : ℕ) (f′ : List ℕ) (calls : ℕ) : Type 0 where
+  pub left : f′ ≡ put f at (lastOf c R z (wantsHashes want))
+  pub calls-made : calls ≡ cond (wantsHashes want) (2 * outputs c) 0
+
 -- ---- before the gates: the inputs and the header
 
 pub record FrontStart (n : ℕ) (m z o : List ℕ) : Type 0 where
@@ -142,15 +171,16 @@ pub record FrontStart (n : ℕ) (m z o : List ℕ) : Type 0 where
 
 pub record FrontIs (p : Plan) (n outs q : ℕ) (m z o m′ z′ o′ : List ℕ) : Type 0 where
   pub inputs-are : InputsIs p z o z′ o′
-  pub header-is : m′ ≡ over (0x47 ∷ 0x48 ∷ p .wanted .scheme ∷ two n ++ two outs ++ two q) m
+  pub header-is : m′ ≡ over (0x47 ∷ endingOf (wantsHashes (p .wanted)) .headerMark ∷ p .wanted .scheme ∷ two n ++ two outs ++ two q) m
 
 -- ---- the gates and the last record
 
 pub record BodyStart (c seed : List ℕ) (want : Wanted) (s : Sizes) (m z : List ℕ) : Type 0 where
   pub sized : Accepted c s
   pub gates-start : GatesStart c seed want (s .q) m z
+  pub file-room : fileLength c want ≤ length m
 
 pub record BodyIs (c seed : List ℕ) (want : Wanted) (m z m′ z′ : List ℕ) (calls : ℕ) : Type 0 where
   pub zeros-left : z′ ≡ over (joinBlocks (zeroTokens (garblingOf c seed want))) z
   pub material-left : m′ ≡ over (material (garblingOf c seed want)) m
-  pub calls-made : calls ≡ garbleCalls (garblingOf c seed want) (circuitOf c .gates) (inputZeros (garblingOf c seed want))
+  pub calls-made : calls ≡ garbleCalls (garblingOf c seed want) (circuitOf c .gates) (inputZeros (garblingOf c seed want)) + outputCalls (garblingOf c seed want)

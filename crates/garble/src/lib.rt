@@ -5,10 +5,9 @@ ghost use Rattle.model.specs.Operations.{ranOf, garbledOf, GarbleIs, EncodeIs};
 ghost use Rattle.garble.specs.Pick.{PartIs};
 use crate::arguments::encode_arguments;
 use crate::arguments::garble_arguments;
+use crate::clash::garble_or_wipe;
 use crate::inputs::encode_inputs;
-use crate::whole::garble_whole;
 use circuit::check;
-use material::material_length;
 use model::Checked;
 use model::Garbled;
 use model::Ran;
@@ -18,6 +17,7 @@ use model::Wanted;
 use model::Wire;
 
 pub mod arguments;
+pub mod clash;
 pub mod fresh;
 pub mod gate;
 pub mod inputs;
@@ -29,7 +29,7 @@ pub mod walk;
 pub mod whole;
 
 // The material, the zero tokens of all wires and the one tokens of the inputs; or the first of refusals 1 to 7, 25, 26, 8,
-// 14, 19. Answers the material's length and the encryptions made.
+// 13, 14, 19, 30. Of these 30 alone changes the buffers: zeros are where the bytes were. Answers the material's length and the encryptions made.
 pub fn garble(
     circuit: &[u8],
     seed: &[u8],
@@ -43,22 +43,9 @@ pub fn garble(
     match check(circuit) {
         Checked::Refused(f) => Garbled::Refused(f),
         Checked::Accepted(z) => {
-            match garble_arguments(
-                z,
-                seed,
-                wanted.scheme,
-                material.len(),
-                zeros.len(),
-                ones.len(),
-            ) {
+            match garble_arguments(z, seed, wanted, material.len(), zeros.len(), ones.len()) {
                 Ran::Refused(f) => Garbled::Refused(f),
-                Ran::Done => {
-                    let calls = garble_whole(circuit, seed, wanted, z, material, zeros, ones);
-                    Garbled::Done {
-                        length: material_length(wanted.scheme, z.m, z.p),
-                        calls,
-                    }
-                }
+                Ran::Done => garble_or_wipe(circuit, seed, wanted, z, material, zeros, ones),
             }
         }
     }

@@ -12,6 +12,8 @@ use crate::walk::garble_gates;
 use aes::fixed_schedule;
 use aes::s_box;
 use block::load;
+use material::ending::header_mark;
+use material::ending::wants_hashes;
 use material::last_start;
 use material::writers::write_header;
 use model::Sizes;
@@ -33,7 +35,8 @@ fn garble_front(
     ensures { λ _. ⌜ FrontIs plan (z .n) (z .m) (z .q) (now (material .entry)) (now (zeros .entry)) (now (ones .entry)) (now (material .exit)) (now (zeros .exit)) (now (ones .exit)) ⌝ }
 {
     garble_inputs(ks, plan, zeros, ones);
-    write_header(material, plan.wanted.scheme, z.n, z.m, z.q);
+    let mark = header_mark(wants_hashes(plan.wanted));
+    write_header(material, mark, plan.wanted.scheme, z.n, z.m, z.q);
 }
 
 // The gates, and the last record after theirs. Answers the encryptions made.
@@ -54,10 +57,10 @@ fn garble_body(
     requires { ⌜ BodyStart (now circuit) (plan .seed .bytes) (plan .wanted) z (now material) (now zeros) ⌝ }
     ensures { λ r. ⌜ BodyIs (now (circuit .entry)) (plan .seed .bytes) (plan .wanted) (now (material .entry)) (now (zeros .entry)) (now (material .exit)) (now (zeros .exit)) r ⌝ }
 {
-    let calls = garble_gates(kp, t, ks, plan, circuit, z.q, material, zeros);
+    let made = garble_gates(kp, t, ks, plan, circuit, z.q, material, zeros);
     let at = last_start(plan.wanted.scheme, z.p);
-    write_last(circuit, z, zeros, material, at);
-    calls
+    let hashes = write_last(kp, plan, circuit, z, zeros, material, at);
+    made + hashes
 }
 
 // The garbling of an accepted circuit. The constants are named here, once, and lent down; so are the schedules in planes of π's key and of the seed.

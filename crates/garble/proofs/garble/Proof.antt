@@ -1,5 +1,5 @@
 use borrow.Author.Needs.{needs}
-use Rattle.circuit.proofs.AcceptedLaws.{check-bounded, check-outputs, check-charges}
+use Rattle.circuit.proofs.AcceptedLaws.{check-bounded}
 use Rattle.garble.proofs.GarbleIsLaws.{garble-cases}
 use Rattle.garble.proofs.garble.Statement.{statement}
 use Rattle.garble.proofs.garble.Tie as tie
@@ -9,5 +9,5 @@ garble-spec =
     tie.close
     (tie.spec (λ c κs. search needs) (λ c. search needs) (λ c. search needs) (λ c κs. search check-bounded)
     (λ c. search needs) (λ c. search needs) (λ c κs. search garble-cases)
-    (λ c κs. (search check-outputs, search check-charges)) (λ c. search garble-cases) (λ c. search garble-cases)
+    (λ c. search garble-cases) (λ c. search garble-cases)
     (λ c. search needs) (λ c. search needs) (λ c. search needs) (λ c. search garble-cases))

@@ -9,5 +9,6 @@ unfolding garbleArguments
 garble-arguments-spec =
     tie.close
     (tie.spec (λ c κs. search needs) (λ c. search needs) (λ c. search needs) (λ c κs. search needs)
-    (λ c. search needs) (λ c. search needs) (λ c κs. search needs) (λ c. search steps depth 8)
-    (λ c. search steps depth 8) (λ c. search steps depth 8))
+    (λ c. search needs) (λ c. search needs) (λ c κs. search needs) (λ c. search needs) (λ c. search needs)
+    (λ c κs. search needs) (λ c. search steps depth 8) (λ c. search steps depth 8) (λ c. search steps depth 8)
+    (λ c. search steps depth 8))
