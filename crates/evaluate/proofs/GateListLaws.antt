@@ -4,7 +4,7 @@ use native.Mathlib.Numerals.{add-one}
 use native.Mathlib.Decide.{decLt}
 use native.Mathlib.Omega.{arith}
 use mathlib.Core.Path.{_≡_, refl, sym, ap, _∙_}
-use mathlib.Core.Bool.{Bool, true, false, not, _&&_}
+use mathlib.Core.Bool.{Bool, true, false, _&&_, _||_, not}
 use mathlib.Core.List.{List}
 use borrow.Author.Tests.{le-leb, lt-leb, lt-ltb, le-ltb, eq-eqb, eqb-true, ne-eqb, not-true, not-false}
 use lib.Dec.{leb, eqb}
@@ -22,6 +22,7 @@ use Rattle.model.specs.Bytes.{be16, over}
 use Rattle.model.specs.Circuit.{circuitOf, inputs, gates, gateAt, markAt, kindOf, charge, sizesHold}
 use Rattle.model.specs.Scheme.{recordLength}
 use Rattle.model.specs.Garbling.{schemeOf}
+use Rattle.model.specs.Material.{hashed}
 use Rattle.model.specs.Refusals.{Verdict, fine, refused, refuse, _then_, firstOf, numberOf, placeOf, verdictOf, headVerdict, gateVerdict, recordVerdict, gatesVerdict, outputsVerdict, circuitVerdict, tokensVerdict, fileVerdict, materialVerdict, lastVerdict, roomVerdict, rowRecordAt}
 use Rattle.model.specs.Operations.{sizesOf, ranOf, evaluatedOf, evaluateVerdict, EvaluateIs}
 use Rattle.model.proofs.Lists.{tabulate-snoc}
@@ -231,7 +232,7 @@ pub ruleset passed-cases = (passed-free, passed-short, passed-wrong, passed-righ
 -- ---- where the next row record is due, past that of gate k
 
 -- place 0 has another mark than a row record
-header-mark : (z : Sizes) (s : List ℕ) → fileVerdict z s ≡ fine → markAt s 0 0x47 0x48 ≡ true
+header-mark : (z : Sizes) (s : List ℕ) → fileVerdict z s ≡ fine → (markAt s 0 0x47 0x48 || hashed s) ≡ true
 unfolding fileVerdict
 header-mark z s e =
     let a = then-fine _ _ e in
@@ -240,13 +241,16 @@ header-mark z s e =
     let f = then-fine _ _ (d .0) in
     not-false _ (refuse-fine _ _ _ (f .1))
 
-no-row : (s : List ℕ) (due : ℕ) → markAt s 0 0x47 0x48 ≡ true → rowRecordAt s 0 due ≡ true → ⊥
-unfolding rowRecordAt markAt
+not-marked : (b : Bool) → ((b && false) || (b && false)) ≡ true → ⊥
+not-marked true e = let z : _≡_ {A = ℕ} 0 1 = cc in omega arith
+not-marked false e = let z : _≡_ {A = ℕ} 0 1 = cc in omega arith
+
+no-row : (s : List ℕ) (due : ℕ) → (markAt s 0 0x47 0x48 || hashed s) ≡ true → rowRecordAt s 0 due ≡ true → ⊥
+unfolding rowRecordAt markAt hashed
 no-row s due a b =
-    let x = eqb-true (getD s 1 0) 0x48 (and-both (eqb (getD s 0 0) 0x47) (eqb (getD s 1 0) 0x48) a .1) in
     let mark = and-both (eqb (getD s 0 0) 0x47 && eqb (getD s 1 0) 0x54) (eqb (be16 s 2) due) b .0 in
     let y = eqb-true (getD s 1 0) 0x54 (and-both (eqb (getD s 0 0) 0x47) (eqb (getD s 1 0) 0x54) mark .1) in
-    omega arith
+    not-marked (eqb (getD s 0 0) 0x47) (rw y at a)
 
 module _ (c s : List ℕ) (k : ℕ) (h : k < gates c) (g : Gate) (is-g : g ≡ gateAt c k) (here : Cursor) (before : Guessed c s k (here .at)) where
   guess-free : charge (kindOf (g .code)) ≡ 0 → Guessed c s (k + 1) (here .at)

@@ -1,51 +1,58 @@
--- Decoding: one output more, and the invariant of the loop. Assumes nothing.
-use Prim.Native.Nat.{ℕ, suc, _+_, _*_, _-_, _≤_, _<_}
+-- The bits of the outputs, written one after the other, by whatever they are told; and by colours. Assumes nothing.
+use Prim.Native.Nat.{ℕ, _+_, _*_, _-_, _≤_, _<_}
 use native.Mathlib.Numerals.{add-one}
 use native.Mathlib.Omega.{arith}
-use mathlib.Core.Path.{_≡_, refl, ap, _∙_}
-use mathlib.Core.List.{List, [], _∷_, _++_}
+use mathlib.Core.Path.{_≡_, refl, _∙_}
+use mathlib.Core.List.{List}
 use lib.ListN.{length, getD, take, drop, set, length-set}
-use lib.Seq.{getD-drop}
 use Rattle.model.specs.Bytes.{over}
 use Rattle.model.specs.Aes.{Block}
 use Rattle.model.specs.Tokens.{colour, decoded}
-use Rattle.model.specs.Evaluation.{cut, decodeWith}
-use Rattle.model.proofs.Blocks.{cut-length, cut-snoc}
+use Rattle.model.specs.Ending.{Ending, colours}
+use Rattle.model.specs.Evaluation.{bytesFor}
+use Rattle.model.proofs.Lists.{tabulate-snoc, tabulate-length}
 use Rattle.model.proofs.Buffers.{over-none, over-set}
-use Rattle.evaluate.specs.Last.{LastStart}
-
-decode-length : (xs : List Block) (ds : List ℕ) → length (decodeWith xs ds) ≡ length xs
-unfolding decodeWith
-decode-length [] ds = refl
-decode-length (x ∷ xs) ds = ap suc (decode-length xs (drop 1 ds))
-
-decode-snoc : (xs : List Block) (x : Block) (ds : List ℕ) → decodeWith (xs ++ (x ∷ [])) ds ≡ decodeWith xs ds ++ (decoded (colour x) (getD ds (length xs) 0) ∷ [])
-unfolding decodeWith
-decode-snoc [] x ds = refl
-decode-snoc (y ∷ xs) x ds =
-    let e : 1 + length xs ≡ suc (length xs) = omega arith in
-    rw (decode-snoc xs x (drop 1 ds), getD-drop 1 ds (length xs) 0, e)
-
--- one output more
-decode-more : (i : ℕ) (ts ds : List ℕ)
-    → decodeWith (cut (suc i) ts) ds ≡ decodeWith (cut i ts) ds ++ (decoded (colour (take 16 (drop (16 * i) ts))) (getD ds i 0) ∷ [])
-decode-more i ts ds =
-    ap (λ (xs : List Block). decodeWith xs ds) (cut-snoc i ts)
-    ∙ decode-snoc (cut i ts) _ ds
-    ∙ ap (λ (k : ℕ). decodeWith (cut i ts) ds ++ (decoded (colour (take 16 (drop (16 * i) ts))) (getD ds k 0) ∷ [])) (cut-length i ts)
+use Rattle.model.proofs.OldEnding.{byte-at}
+use Rattle.evaluate.specs.Last.{bitsOf, LastStart}
 
 -- d is the buffer after i outputs of m, and o at the start
-pub record Decoding (m : ℕ) (ts s o : List ℕ) (i : ℕ) (d : List ℕ) : Type 0 where
+pub record Telling (E : Ending) (ts s : List ℕ) (first m : ℕ) (o : List ℕ) (i : ℕ) (d : List ℕ) : Type 0 where
   pub within : i ≤ m
   pub same-length : length d ≡ length o
-  pub so-far : d ≡ over (decodeWith (cut i ts) (drop (length s - m) s)) o
+  pub so-far : d ≡ over (bitsOf E ts s first i) o
 
+module _ (E : Ending) (ts s : List ℕ) (first m : ℕ) (o : List ℕ) where
+  -- the bit of output i
+  abbrev pub bitAt : ℕ → ℕ
+  bitAt i = E .bit (i + 1) (take 16 (drop (16 * i) ts)) (bytesFor E s first i)
+
+  pub telling-start : Telling E ts s first m o 0 o
+  unfolding bitsOf
+  telling-start = record { within = omega arith; same-length = refl; so-far = over-none o }
+
+  module _ (i : ℕ) (d : List ℕ) (inv : Telling E ts s first m o i d) where
+    pub telling-turn : m ≤ length o → i < m → (v : ℕ) → v ≡ bitAt i → Telling E ts s first m o (i + 1) (set d i v)
+    unfolding bitsOf
+    telling-turn room h v is-v = record {
+      within = omega arith;
+      same-length = simp length-set (inv .same-length);
+      so-far =
+          rw (add-one, tabulate-snoc i bitAt, inv .so-far, is-v)
+          (over-set (bitsOf E ts s first i) o i _ (tabulate-length i bitAt) (omega (arith, room)));
+    }
+
+    pub telling-end : m ≤ i → d ≡ over (bitsOf E ts s first m) o
+    telling-end h = let w = inv .within in let e : i ≡ m = omega arith in rw e at (inv .so-far)
+
+-- ---- colours
 module _ (m : ℕ) (ts s o : List ℕ) where
-  pub decode-start : Decoding m ts s o 0 o
-  unfolding cut decodeWith
-  decode-start = record { within = omega arith; same-length = refl; so-far = over-none o }
+  abbrev pub Decoding : ℕ → List ℕ → Type 0
+  Decoding i d = Telling colours ts s (length s - m) m o i d
 
-  module _ (start : LastStart m ts s o) (i : ℕ) (d : List ℕ) (inv : Decoding m ts s o i d) where
+  pub decode-start : Decoding 0 o
+  decode-start = telling-start colours ts s (length s - m) m o
+
+  module _ (start : LastStart m ts s o) (i : ℕ) (d : List ℕ) (inv : Decoding i d) where
     pub decode-load : i < m → 16 * i + 16 ≤ length ts
     decode-load h = omega (arith, start .tokens)
 
@@ -59,19 +66,12 @@ module _ (m : ℕ) (ts s o : List ℕ) where
     decode-zero h = start .bits i h
 
     pub decode-turn : i < m → (x : Block) (b v : ℕ) → x ≡ take 16 (drop (16 * i) ts) → b ≡ colour x → v ≡ decoded b (getD s (length s - m + i) 0)
-        → Decoding m ts s o (i + 1) (set d i v)
+        → Decoding (i + 1) (set d i v)
     decode-turn h x b v is-x is-b is-v =
-        let ds : List ℕ = drop (length s - m) s in
-        let e : v ≡ decoded (colour (take 16 (drop (16 * i) ts))) (getD ds i 0) = is-v ∙ rw (getD-drop (length s - m) s i 0, ← is-x, ← is-b) in
-        record {
-          within = omega arith;
-          same-length = simp length-set (inv .same-length);
-          so-far =
-              rw (add-one, decode-more, inv .so-far, e)
-              (over-set (decodeWith (cut i ts) ds) o i _ (decode-length _ ds ∙ cut-length i ts) (omega (arith, start .room)));
-        }
+        telling-turn colours ts s (length s - m) m o i d inv (start .room) h v
+        (is-v ∙ rw (is-b, is-x) (unfold colours in rw (byte-at s (length s - m) i)))
 
-    pub decode-end : m ≤ i → d ≡ over (decodeWith (cut m ts) (drop (length s - m) s)) o
-    decode-end h = let w = inv .within in let e : i ≡ m = omega arith in rw e at (inv .so-far)
+    pub decode-end : m ≤ i → d ≡ over (bitsOf colours ts s (length s - m) m) o
+    decode-end h = telling-end colours ts s (length s - m) m o i d inv h
 
 pub ruleset decode-turns = (decode-start, decode-load, decode-byte, decode-write, decode-zero, decode-turn, decode-end)

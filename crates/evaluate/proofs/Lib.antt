@@ -1,6 +1,7 @@
 -- Laws of the functions.
 pub mod WalkLaws
 pub mod LastLaws
+pub mod KnownLaws
 pub mod RestLaws
 pub mod EvaluateLaws
 pub mod DecodeLaws

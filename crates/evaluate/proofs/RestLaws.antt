@@ -3,8 +3,9 @@ use Prim.Native.Nat.{ℕ, _+_, _*_, _≤_}
 use mathlib.Core.Path.{_≡_}
 use mathlib.Core.List.{List}
 use lib.ListN.{length}
-use Rattle.model.specs.Circuit.{inputs, outputs, gates}
-use Rattle.model.specs.Refusals.{fine, _then_, circuitVerdict}
+use Rattle.model.specs.Circuit.{circuitOf, inputs, outputs, gates}
+use Rattle.model.specs.Refusals.{fine, _then_, circuitVerdict, unknownVerdict}
+use Rattle.model.specs.Evaluation.{cut}
 use Rattle.model.specs.Operations.{evaluateVerdict, decodeVerdict}
 use Rattle.model.proofs.Verdicts.{then-fine, then-assoc}
 use Rattle.model.proofs.Conditions.{tokens-fine, room-fine}
@@ -16,7 +17,7 @@ module _ (c ts s : List ℕ) (room : ℕ) where
   unfolding evaluateVerdict restVerdict
   evaluate-verdict = simp then-assoc
 
-  pub decode-verdict : decodeVerdict c ts s room ≡ (circuitVerdict c then restVerdict c (outputs c) ts s (outputs c) room)
+  pub decode-verdict : decodeVerdict c ts s room ≡ (circuitVerdict c then (restVerdict c (outputs c) ts s (outputs c) room then unknownVerdict (circuitOf c) (cut (length (circuitOf c .outputs)) ts) s))
   unfolding decodeVerdict restVerdict
   decode-verdict = simp then-assoc
 

@@ -20,7 +20,7 @@ use Rattle.model.specs.Aes.{Block, _⊕_, block, times}
 use Rattle.model.specs.Scheme.{Scheme, recordLength}
 use Rattle.model.specs.Garbling.{schemeOf}
 use Rattle.model.specs.Tokens.{freeToken}
-use Rattle.model.specs.Material.{joinBlocks, lastStart, materialLength}
+use Rattle.model.specs.Material.{joinBlocks, hashed, lastStart, lastBytes, materialLength}
 use Rattle.model.specs.Evaluation.{cut, openAt, openStep, openGates, evaluate, evaluateBytes, tokenAt}
 use Rattle.model.specs.Calls.{openedCalls, evaluateCallsAt, evaluateCalls}
 use Rattle.model.specs.Operations.{evaluateCallsOf}
@@ -287,7 +287,7 @@ module _ (c s : List ℕ) (n q : ℕ) (o : List ℕ) (start : WalkStart c s n q 
       unfolding circuitOf
       room-at =
           let fits = record-fits (getD s 2 0) (gateAt c) k (gates c) (omega (arith, start .is-q)) in
-          omega (arith, fits, inv .is-at, start .whole, length-last (getD s 2 0) (outputs c) (charges (tabulate (gates c) (gateAt c))))
+          omega (arith, fits, inv .is-at, start .whole, length-last (getD s 2 0) (lastBytes (hashed s) (outputs c)) (charges (tabulate (gates c) (gateAt c))))
 
       pub walk-step : OpenStart (getD s 2 0) c n k s at calls d
       walk-step = record {

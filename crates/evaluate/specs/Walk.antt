@@ -10,7 +10,7 @@ use Rattle.model.specs.Circuit.{circuitOf, inputs, outputs, gates, gateAt, gate
 use Rattle.model.specs.Aes.{Block}
 use Rattle.model.specs.Scheme.{Scheme, recordLength}
 use Rattle.model.specs.Garbling.{Known, schemeOf}
-use Rattle.model.specs.Material.{joinBlocks, lastStart, materialLength}
+use Rattle.model.specs.Material.{joinBlocks, hashed, lastStart, lastBytes, materialLength}
 use Rattle.model.specs.Evaluation.{cut, openAt, openGates, evaluate, evaluateBytes, tokenAt}
 use Rattle.model.specs.Calls.{evaluateCallsAt, evaluateCalls}
 use Rattle.model.specs.Operations.{evaluateCallsOf}
@@ -66,7 +66,7 @@ pub record WalkStart (c s : List ℕ) (n q : ℕ) (o : List ℕ) : Type 0 where
   pub is-n : n ≡ inputs c
   pub is-q : q ≡ gates c
   pub known : Known (getD s 2 0)
-  pub whole : length s ≡ materialLength (getD s 2 0) (outputs c) (charges (circuitOf c .gates))
+  pub whole : length s ≡ materialLength (getD s 2 0) (lastBytes (hashed s) (outputs c)) (charges (circuitOf c .gates))
   pub room : 16 * (n + q) ≤ length o
 
 -- the same before the tokens ts of the inputs are copied to the buffer

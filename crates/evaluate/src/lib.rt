@@ -2,7 +2,7 @@
 ghost use Rattle.model.specs.Operations.{ranOf, evaluatedOf, EvaluateIs, OutputTokensIs, DecodeIs};
 use crate::arguments::check_rest;
 use crate::arguments::output_arguments;
-use crate::last::decode_outputs;
+use crate::last::decode_bits;
 use crate::outputs::gather_tokens;
 use crate::walk::evaluate_wires;
 use circuit::check;
@@ -11,6 +11,7 @@ use model::Evaluated;
 use model::Ran;
 
 pub mod arguments; // refusals
+pub mod hashes; // decoding by hashes
 pub mod last; // decoding
 pub mod list; // a list of gate records
 pub mod outputs; // the outputs' tokens
@@ -52,7 +53,7 @@ pub fn output_tokens(circuit: &[u8], wires: &[u8], tokens: &mut [u8]) -> Ran
     }
 }
 
-// The outputs' bits, from their tokens; or the first of refusals 1 to 7, 25, 26, 11, 12 to 18, 19.
+// The outputs' bits, from their tokens; or the first of refusals 1 to 7, 25, 26, 11, 12 to 18, 19, 29.
 pub fn decode(circuit: &[u8], tokens: &[u8], material: &[u8], bits: &mut [u8]) -> Ran
     ensures { λ r. ⌜ DecodeIs (now (circuit .entry)) (now (tokens .entry)) (now (material .entry)) (now (bits .entry)) (ranOf r) (now (bits .exit)) ⌝ }
 {
@@ -61,10 +62,7 @@ pub fn decode(circuit: &[u8], tokens: &[u8], material: &[u8], bits: &mut [u8]) -
         Checked::Accepted(z) => {
             match check_rest(circuit, z, z.m, tokens, material, z.m, bits.len()) {
                 Ran::Refused(f) => Ran::Refused(f),
-                Ran::Done => {
-                    decode_outputs(z.m, tokens, material, bits);
-                    Ran::Done
-                }
+                Ran::Done => decode_bits(z.m, tokens, material, bits),
             }
         }
     }
