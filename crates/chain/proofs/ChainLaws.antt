@@ -10,12 +10,11 @@ use Rattle.model.specs.declared.Wanted.{Wanted}
 use Rattle.model.specs.declared.Refusal.{Refusal}
 use Rattle.model.specs.declared.Checked.{Checked}
 use Rattle.model.specs.declared.Garbled.{Garbled}
-use Rattle.model.specs.Circuit.{charges, circuitOf, outputs, gates}
 use Rattle.model.specs.Tokens.{garblingOf}
 use Rattle.model.specs.Garbling.{zeroTokens, inputOnes}
-use Rattle.model.specs.Material.{joinBlocks, material, materialLength}
-use Rattle.model.specs.Refusals.{fine, refused, verdictOf}
-use Rattle.model.specs.Operations.{Made, made, no, yes, sizesOf, checkedOf, checkAnswer, garbledOf, garbleVerdict, garbleMade, GarbleIs}
+use Rattle.model.specs.Material.{joinBlocks, material}
+use Rattle.model.specs.Refusals.{fine, refused, verdictOf, clashVerdict}
+use Rattle.model.specs.Operations.{Made, made, no, yes, fileLength, sizesOf, checkedOf, checkAnswer, garbledOf, garbleVerdict, garbleMade, GarbleIs}
 use Rattle.circuit.specs.Accepted.{Accepted}
 use Rattle.circuit.proofs.AcceptedLaws as A
 use Rattle.circuit.proofs.AcceptedLaws.{check-accepted, is-n}
@@ -41,7 +40,7 @@ module _ (c seed : List ℕ) (want : Wanted) (f z o : List ℕ) (g : Garbled) (f
       let refused-by : GarbleIs c seed want f z o (no (verdictOf e)) f′ z′ o′ = rw h at answers in
       record {
         garble-is = refused-by;
-        only-19 = H.garble-refused c seed want v f z o f′ z′ o′ _ _ refused-by;
+        only-these = H.garble-refused c seed want v f z o f′ z′ o′ _ _ refused-by;
         tokens-kept = refl;
         wires-kept = refl;
         outputs-kept = refl;
@@ -56,10 +55,13 @@ module _ (c seed : List ℕ) (want : Wanted) (f z o : List ℕ) (g : Garbled) (f
     was-fine : garbleVerdict c seed want (length f) (length z) (length o) ≡ fine
     was-fine = H.was-fine c seed want f z o f′ z′ o′ (made l k) done
 
+    no-clash : clashVerdict (garblingOf c seed want) ≡ fine
+    no-clash = H.no-clash c seed want f z o f′ z′ o′ (made l k) done
+
     is-made : made l k ≡ garbleMade c seed want
     is-made = H.garble-made c seed want f z o f′ z′ o′ (made l k) done
 
-    is-length : l ≡ materialLength (want .scheme) (outputs c) (charges (circuitOf c .gates))
+    is-length : l ≡ fileLength c want
     unfolding garbleMade
     is-length = ap lengthOf is-made
 
@@ -71,7 +73,7 @@ module _ (c seed : List ℕ) (want : Wanted) (f z o : List ℕ) (g : Garbled) (f
 
     pub material-among : l ≤ length f′
     material-among =
-        rw (is-length, answers .material-left, was-fine)
+        rw (is-length, answers .material-left, was-fine, no-clash)
         (omega (arith, start .file-room, over-long (material (garblingOf c seed want)) f))
 
     pub material-front : l ≡ length (take l f′)
@@ -92,10 +94,10 @@ module _ (c seed : List ℕ) (want : Wanted) (f z o : List ℕ) (g : Garbled) (f
         encode-ready = record {
           sized = known;
           all-zeros =
-              rw (is-n c s known, answers .zeros-left, was-fine)
+              rw (is-n c s known, answers .zeros-left, was-fine, no-clash)
               (omega (arith, start .wires-room, over-long (joinBlocks (zeroTokens (garblingOf c seed want))) z));
           all-ones =
-              rw (is-n c s known, answers .ones-left, was-fine)
+              rw (is-n c s known, answers .ones-left, was-fine, no-clash)
               (omega (arith, start .inputs-room, over-long (joinBlocks (inputOnes (garblingOf c seed want))) o));
         }
 

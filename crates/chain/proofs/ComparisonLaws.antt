@@ -7,6 +7,7 @@ use Rattle.model.specs.declared.Sizes.{Sizes}
 use Rattle.model.specs.declared.Wanted.{Wanted}
 use Rattle.model.specs.Circuit.{outputs}
 use Rattle.model.specs.Garbling.{Known}
+use Rattle.model.specs.Refusals.{fine, markVerdict}
 use Rattle.model.specs.Operations.{sizesOf}
 use Rattle.model.specs.Demand3.{Allowed}
 use Rattle.comparator.specs.Compares.{figures, Compares}
@@ -19,11 +20,12 @@ use Rattle.chain.specs.Comparison.{Compared, ComparisonHolds}
 
 module _ (w : ℕ) (c : List ℕ) (is : Compares w c) where
   -- the arguments are those that demand 3 names
-  allowed : (price ceiling : ℕ) (seed : List ℕ) (want : Wanted) → length seed ≡ 16 → Known (want .scheme) → Allowed c seed want (figures w price ceiling)
+  allowed : (price ceiling : ℕ) (seed : List ℕ) (want : Wanted) → length seed ≡ 16 → Known (want .scheme) → markVerdict (want .mark) ≡ fine → Allowed c seed want (figures w price ceiling)
   unfolding sizesOf
-  allowed price ceiling seed want long known = record {
+  allowed price ceiling seed want long known marked = record {
     accepted = is .accepted;
     known = known;
+    marked = marked;
     seed-bytes = long;
     one-each = figures-long w price ceiling ∙ sym (ap (λ (z : Sizes). z .n) (is .sizes));
     bits = figures-bits w price ceiling;
@@ -35,9 +37,9 @@ module _ (w : ℕ) (c : List ℕ) (is : Compares w c) where
 
   module _ (price ceiling : ℕ) (h : price < 2 ^ w) (l : ceiling < 2 ^ w) (seed : List ℕ) (want : Wanted) (a : Allowed c seed want (figures w price ceiling))
       (f z o t ws y b f′ z′ o′ t′ ws′ y′ b′ : List ℕ) where
-    ended : (r : Chained) → ChainIs c seed want (figures w price ceiling) f z o t ws y b r f′ z′ o′ t′ ws′ y′ b′ → Compared price ceiling b′ r
+    ended : (r : Chained) → ChainIs c seed want (figures w price ceiling) f z o t ws y b r f′ z′ o′ t′ ws′ y′ b′ → Compared want price ceiling b′ r
     ended Chained.Done p = rw (rw one-output at (p .bits-right .decoded)) (is .at-most price ceiling h l)
-    ended (Chained.Garble e) p = p .only-19 a
+    ended (Chained.Garble e) p = p .only-these a
     ended (Chained.Encode e) p = p .only-19 a
     ended (Chained.Evaluate e) p = p .only-19
     ended (Chained.Outputs e) p = p .only-19
@@ -45,7 +47,7 @@ module _ (w : ℕ) (c : List ℕ) (is : Compares w c) where
 
   pub comparison : ComparisonHolds w c
   comparison = record {
-    compared = λ price ceiling h l seed want long known. ended price ceiling h l seed want (allowed price ceiling seed want long known);
+    compared = λ price ceiling h l seed want long known marked. ended price ceiling h l seed want (allowed price ceiling seed want long known marked);
   }
 
 -- and so of the circuit that `comparator` writes, for every width that it takes

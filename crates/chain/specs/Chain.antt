@@ -8,23 +8,24 @@
 -- carries there, in the order of the outputs."
 --
 -- With a run number (02, job 4), for each of them: "the tokens' distance is R of that run." With outputs by name (02, job 8) too, of which "Decoded bits
--- follow the list's order": their tokens are gathered in that order before they are decoded.
+-- follow the list's order": their tokens are gathered in that order before they are decoded. With both marks (02, job 12): "Where 30 refuses garble, demand
+-- 3's chain ends there, as it does with 19."
 --
 -- Letters: c is the circuit's bytes, v the value list. The seven buffers are the material f, the zero tokens z, the one tokens o, the
 -- encoded tokens t, the tokens of all wires w, those of the outputs y and the bits b; f′, z′, o′, t′, w′, y′, b′ are they when the chain has ended.
 use Prim.Native.Nat.{ℕ, _+_, _*_, _≤_}
 use mathlib.Core.Path.{_≡_}
+use mathlib.Core.Bool.{true}
 use mathlib.Core.Logic.{_↔_}
 use mathlib.Core.List.{List, map}
 use lib.ListN.{take}
 use Rattle.model.specs.declared.Wanted.{Wanted}
-use Rattle.model.specs.Circuit.{charges, circuitOf, inputs, outputs, gates}
+use Rattle.model.specs.Circuit.{circuitOf, inputs, outputs, gates}
 use Rattle.model.specs.Aes.{block}
-use Rattle.model.specs.Tokens.{garblingOf, offset, distance}
-use Rattle.model.specs.Material.{materialLength}
+use Rattle.model.specs.Tokens.{wantsHashes, garblingOf, offset, distance}
 use Rattle.model.specs.Evaluation.{tokenAt}
 use Rattle.model.specs.Refusals.{Verdict, fine, refused, verdictOf}
-use Rattle.model.specs.Operations.{Answer, yes, no, garbleMade, evaluateCallsOf, GarbleIs, EncodeIs, EvaluateIs, OutputTokensIs, DecodeIs}
+use Rattle.model.specs.Operations.{Answer, yes, no, fileLength, garbleMade, evaluateCallsOf, GarbleIs, EncodeIs, EvaluateIs, OutputTokensIs, DecodeIs}
 use Rattle.model.specs.Demand3.{Allowed, carries}
 use Rattle.chain.specs.declared.Chained.{Chained}
 
@@ -46,12 +47,17 @@ pub record IsRoom (e : Verdict) : Type 0 where
   pub needed : ℕ
   pub is-19 : e ≡ refused 19 needed
 
+-- and of garble 30 beside it, where its material is to end in hashes: "Where 30 refuses garble, demand 3's chain ends there" (02, job 12)
+pub data GarbleStops (want : Wanted) : Verdict → Type 0 where
+  by-room : {e : Verdict} → IsRoom e → GarbleStops want e
+  by-clash : (k : ℕ) → wantsHashes want ≡ true → GarbleStops want (refused 30 k)
+
 -- ---- what each of the calls answered and left: a call gets the front of what the calls before it wrote
 
 module _ (c seed : List ℕ) (want : Wanted) (v f z o t w y b f′ z′ o′ t′ w′ y′ b′ : List ℕ) where
   -- "evaluate gets .. garble's material": the bytes of it that garble wrote
   abbrev pub file : List ℕ
-  file = take (materialLength (want .scheme) (outputs c) (charges (circuitOf c .gates))) f′
+  file = take (fileLength c want) f′
 
   -- garble ran
   abbrev pub GarbleRan : Type 0
@@ -80,7 +86,7 @@ module _ (c seed : List ℕ) (want : Wanted) (v f z o t w y b f′ z′ o′ t�
 
   pub record EndedAtGarble (e : Verdict) : Type 0 where
     pub garble-is : GarbleIs c seed want f z o (no e) f′ z′ o′
-    pub only-19 : Allowed c seed want v → IsRoom e
+    pub only-these : Allowed c seed want v → GarbleStops want e
     pub tokens-kept : t′ ≡ t
     pub wires-kept : w′ ≡ w
     pub outputs-kept : y′ ≡ y

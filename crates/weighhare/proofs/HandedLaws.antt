@@ -2,6 +2,7 @@
 use Prim.Native.Nat.{ℕ}
 use mathlib.Core.Path.{_≡_, refl, sym, ap, _∙_}
 use mathlib.Core.List.{List, [], _∷_}
+use lib.Dec.{eqb}
 use Rattle.model.specs.declared.Checked.{Checked}
 use Rattle.model.specs.declared.Garbled.{Garbled}
 use Rattle.model.specs.declared.Refusal.{Refusal}
@@ -12,9 +13,10 @@ use Rattle.model.specs.Refusals.{Verdict, verdictOf}
 use Rattle.model.specs.Operations.{Answer, Made, checkedOf, garbledOf}
 use Rattle.weighhare.specs.Out.{Out, out, verdictOut, sizesOut, madeOut, numberOut, Handed}
 
--- what a run number and a scheme byte ask for is the garbling of that run by that scheme
-wanted-garbling : (c seed : List ℕ) (run scheme : ℕ) → garblingOf c seed (record { run = run; scheme = scheme }) ≡ record { circuit = circuitOf c; seed = seed; run = run; scheme = scheme }
-wanted-garbling c seed run scheme = refl
+-- what a run number, a scheme byte and a mark ask for is the garbling of that run by that scheme, with hashes where the mark is 47 4A
+wanted-garbling : (c seed : List ℕ) (run scheme mark : ℕ)
+    → garblingOf c seed (record { run = run; scheme = scheme; mark = mark }) ≡ record { circuit = circuitOf c; seed = seed; run = run; scheme = scheme; hashed = eqb mark 0x474A }
+wanted-garbling c seed run scheme mark = refl
 
 -- an operation's answer r is `of r` in the model's terms; it is the case k
 of-case : {R X : Type 0} (Is : X → Type 0) (of : R → X) (outOf : X → Out) (number : ℕ) (words : List ℕ) (r k : R)

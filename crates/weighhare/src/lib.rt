@@ -44,21 +44,22 @@ pub extern "C" fn weighhare_plain(
     ran(answer, done)
 }
 
-// Garble: material, zero tokens, one tokens; the material's length and the encryptions.
+// Garble: material of the mark wanted, zero tokens, one tokens; the material's length and the encryptions. Refusal 30 leaves zeros.
 #[no_mangle]
 pub extern "C" fn weighhare_garble(
     circuit: &[u8],
     seed: &[u8],
     run: u64,
     scheme: u8,
+    mark: u16,
     material: &mut [u8],
     zeros: &mut [u8],
     ones: &mut [u8],
     answer: &mut [u64; 4],
 ) -> u8
-    ensures { λ r. ⌜ Handed (λ x. GarbleIs (now (circuit .entry)) (now (seed .entry)) (record { run = run; scheme = scheme }) (now (material .entry)) (now (zeros .entry)) (now (ones .entry)) x (now (material .exit)) (now (zeros .exit)) (now (ones .exit))) madeOut r (now (answer .exit)) ⌝ }
+    ensures { λ r. ⌜ Handed (λ x. GarbleIs (now (circuit .entry)) (now (seed .entry)) (record { run = run; scheme = scheme; mark = mark }) (now (material .entry)) (now (zeros .entry)) (now (ones .entry)) x (now (material .exit)) (now (zeros .exit)) (now (ones .exit))) madeOut r (now (answer .exit)) ⌝ }
 {
-    let wanted = Wanted { run, scheme };
+    let wanted = Wanted { run, scheme, mark };
     match garble::garble(circuit, seed, wanted, material, zeros, ones) {
         Garbled::Refused(f) => refused(answer, f),
         Garbled::Done { length, calls } => results(answer, length, calls, 0, 0),
