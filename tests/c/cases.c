@@ -32,7 +32,7 @@ static size_t read_length(FILE *file)
 int read_case(FILE *file, struct call *call)
 {
     uint8_t head[4];
-    uint16_t numbers[5];
+    uint16_t numbers[6];
     memset(call, 0, sizeof *call);
     if (fread(head, 1, 1, file) != 1)
         return 0;
@@ -42,12 +42,12 @@ int read_case(FILE *file, struct call *call)
     read_exactly(file, &call->width, sizeof call->width);
     read_exactly(file, call->words, sizeof call->words);
     call->operation = head[0], call->scheme = head[1], call->bit = head[2], call->number = head[3];
-    call->wire = numbers[0], call->n = numbers[1], call->m = numbers[2];
-    if (call->operation >= OPERATIONS || numbers[3] > MOST_LISTS || numbers[4] > MOST_OUTPUTS)
+    call->wire = numbers[0], call->n = numbers[1], call->m = numbers[2], call->mark = numbers[3];
+    if (call->operation >= OPERATIONS || numbers[4] > MOST_LISTS || numbers[5] > MOST_OUTPUTS)
         exit(2);
-    for (; call->lists < numbers[3]; call->lists++)
+    for (; call->lists < numbers[4]; call->lists++)
         call->list[call->lists] = read_bytes(file, read_length(file));
-    for (; call->outputs < numbers[4]; call->outputs++) {
+    for (; call->outputs < numbers[5]; call->outputs++) {
         size_t length = read_length(file);
         call->before[call->outputs] = read_bytes(file, length);
         call->after[call->outputs] = read_bytes(file, length);

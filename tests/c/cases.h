@@ -1,7 +1,7 @@
 /* A file of calls and what must come back, in the machine's own byte order. A case is: operation, scheme, bit and refusal
- * due (a byte each); wire, n, m, and how many lists and output buffers it has (16 bits each); the run number and the width
- * (64 bits each); four words of answer; each list (64 bits of length, its bytes); each output buffer (64 bits of length, its
- * bytes before the call, and after). */
+ * due (a byte each); wire, n, m, mark, and how many lists and output buffers it has (16 bits each); the run number and
+ * the width (64 bits each); four words of answer; each list (64 bits of length, its bytes); each output buffer (64 bits
+ * of length, its bytes before the call, and after). */
 #ifndef CASES_H
 #define CASES_H
 
@@ -24,7 +24,7 @@ struct bytes {
 
 struct call {
     uint8_t operation, scheme, bit, number;
-    uint16_t wire, n, m;
+    uint16_t wire, n, m, mark;
     uint16_t lists, outputs;
     uint64_t run, width;
     uint64_t words[4];

@@ -15,8 +15,8 @@ uint8_t enter(const struct call *call, const struct lent *in, const struct lent 
     case PLAIN:
         return weighhare_plain(LIST(in[0]), LIST(in[1]), LIST(out[0]), answer);
     case GARBLE:
-        return weighhare_garble(LIST(in[0]), LIST(in[1]), call->run, call->scheme, LIST(out[0]), LIST(out[1]), LIST(out[2]),
-                                answer);
+        return weighhare_garble(LIST(in[0]), LIST(in[1]), call->run, call->scheme, call->mark, LIST(out[0]), LIST(out[1]),
+                                LIST(out[2]), answer);
     case ENCODE:
         return weighhare_encode(LIST(in[0]), LIST(in[1]), LIST(in[2]), LIST(in[3]), LIST(out[0]), answer);
     case EVALUATE:

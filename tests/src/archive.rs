@@ -105,7 +105,7 @@ unsafe fn enter(call: &Call, inputs: &[List], outs: &[List], answer: &mut librar
         (Operation::Plain, &[(c, cl), (v, vl)], &[(w, wl)]) =>
             library::weighhare_plain(c, cl, v, vl, w, wl, answer),
         (Operation::Garble, &[(c, cl), (s, sl)], &[(m, ml), (z, zl), (o, ol)]) =>
-            library::weighhare_garble(c, cl, s, sl, call.run, call.scheme, m, ml, z, zl, o, ol, answer),
+            library::weighhare_garble(c, cl, s, sl, call.run, call.scheme, call.mark, m, ml, z, zl, o, ol, answer),
         (Operation::Encode, &[(c, cl), (v, vl), (z, zl), (o, ol)], &[(t, tl)]) =>
             library::weighhare_encode(c, cl, v, vl, z, zl, o, ol, t, tl, answer),
         (Operation::Evaluate, &[(c, cl), (t, tl), (m, ml)], &[(w, wl)]) =>

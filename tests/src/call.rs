@@ -3,10 +3,11 @@
 
 use crate::circuit::{Circuit, Gate, Sizes};
 use crate::comparator::comparator;
-use crate::operations as op;
+use crate::material::Mark;
+use crate::operations::{self as op, Wanted};
 use crate::refused::Refused;
 
-/// An operation (01, Operations; 02, jobs 1 and 8).
+/// An operation (01, Operations; 02, jobs 1, 8 and 12).
 #[derive(Clone, Copy, Debug, Default, PartialEq, Eq, PartialOrd, Ord)]
 pub enum Operation {
     /// Check.
@@ -56,15 +57,19 @@ impl Operation {
     }
 
     /// The numbers of the refusals that the operation has arguments for, in the order in which they are
-    /// tried: 25 and 26 come right after 7, and 21 comes first of all.
+    /// tried: 25 and 26 come right after 7, and 21 comes first of all. Garble's 30 is left out: it needs two
+    /// tokens with the same hash, and no run is known that has them.
     pub fn refusals(self) -> &'static [u8] {
         match self {
             Operation::Check => &[1, 2, 3, 4, 5, 6, 7, 25, 26],
             Operation::Plain => &[1, 2, 3, 4, 5, 6, 7, 25, 26, 9, 10, 19],
-            Operation::Garble => &[1, 2, 3, 4, 5, 6, 7, 25, 26, 8, 14, 19],
+            Operation::Garble => &[1, 2, 3, 4, 5, 6, 7, 25, 26, 8, 13, 14, 19],
             Operation::Encode => &[1, 2, 3, 4, 5, 6, 7, 25, 26, 9, 10, 11, 19],
-            Operation::Evaluate | Operation::Decode => &[
+            Operation::Evaluate => &[
                 1, 2, 3, 4, 5, 6, 7, 25, 26, 11, 12, 13, 14, 15, 16, 17, 18, 19,
+            ],
+            Operation::Decode => &[
+                1, 2, 3, 4, 5, 6, 7, 25, 26, 11, 12, 13, 14, 15, 16, 17, 18, 19, 29,
             ],
             Operation::EvaluateGates => &[3, 6, 7, 11, 12, 13, 14, 15, 16, 17, 18, 19],
             Operation::OutputTokens => &[1, 2, 3, 4, 5, 6, 7, 25, 26, 11, 19],
@@ -73,10 +78,18 @@ impl Operation {
         }
     }
 
+    /// The same without 29 and garble's 13: those that there were before 02's job 12. The stored files of cases
+    /// of job 8 are drawn from these.
+    pub fn refusals_of_job_8(self) -> Vec<u8> {
+        let is_new = |number: u8| number == 29 || number == 13 && self == Operation::Garble;
+        let numbers = self.refusals().iter().copied();
+        numbers.filter(|&number| !is_new(number)).collect()
+    }
+
     /// The same without 21, 25 and 26: those that 01 has. The stored files of cases that were there before
     /// 02's job 8 are drawn from these.
     pub fn refusals_of_01(self) -> Vec<u8> {
-        let numbers = self.refusals().iter().copied();
+        let numbers = self.refusals_of_job_8().into_iter();
         numbers.filter(|&number| number <= 20).collect()
     }
 
@@ -88,8 +101,9 @@ impl Operation {
     }
 }
 
-/// One call. Only the arguments of its operation count; the others are empty.
-#[derive(Clone, Debug, Default, PartialEq, Eq)]
+/// One call. Only the arguments of its operation count; the others are empty, but that the mark is 47 48
+/// where nothing else is said.
+#[derive(Clone, Debug, PartialEq, Eq)]
 pub struct Call {
     /// The operation called.
     pub operation: Operation,
@@ -107,6 +121,8 @@ pub struct Call {
     pub run: u64,
     /// Garble's scheme byte.
     pub scheme: u8,
+    /// The mark of the material that garble is to make.
+    pub mark: u16,
     /// The value list of plain and encode.
     pub values: Vec<u8>,
     /// The zero list of encode and pick.
@@ -127,6 +143,32 @@ pub struct Call {
     pub lens: Vec<usize>,
     /// What every byte of the output buffers is before the call.
     pub fill: u8,
+}
+
+impl Default for Call {
+    fn default() -> Call {
+        Call {
+            operation: Operation::default(),
+            circuit: Vec::new(),
+            n: 0,
+            m: 0,
+            gates: Vec::new(),
+            seed: Vec::new(),
+            run: 0,
+            scheme: 0,
+            mark: Mark::Colours.number(),
+            values: Vec::new(),
+            zero: Vec::new(),
+            one: Vec::new(),
+            tokens: Vec::new(),
+            material: Vec::new(),
+            wire: 0,
+            bit: 0,
+            width: 0,
+            lens: Vec::new(),
+            fill: 0,
+        }
+    }
 }
 
 /// What came of a call.
@@ -184,15 +226,12 @@ impl Call {
         let [material, zeros, ones] = buffers.as_mut_slice() else {
             panic!("garble has three output buffers");
         };
-        let garbled = op::garble(
-            &self.circuit,
-            &self.seed,
-            self.run,
-            self.scheme,
-            material,
-            zeros,
-            ones,
-        );
+        let wanted = Wanted {
+            run: self.run,
+            scheme: self.scheme,
+            mark: self.mark,
+        };
+        let garbled = op::garble(&self.circuit, &self.seed, wanted, material, zeros, ones);
         let answer = garbled.map(|garbled| vec![garbled.length, garbled.calls]);
         Outcome { answer, buffers }
     }

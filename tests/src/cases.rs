@@ -174,6 +174,13 @@ impl Fields {
         number.map_err(|_| format!("{name}: 16 digits expected"))
     }
 
+    /// A mark: 4 hexadecimal digits.
+    fn mark(&self, name: &str) -> Result<u16, String> {
+        let bytes = self.bytes(name)?.try_into();
+        let number = bytes.map(u16::from_be_bytes);
+        number.map_err(|_| format!("{name}: 4 digits expected"))
+    }
+
     fn list(&self, name: &str) -> Result<&[Value], String> {
         match self.0.get(name) {
             Some(Value::List(items)) => Ok(items),
@@ -232,6 +239,7 @@ impl Fields {
                 "seed" => call.seed = self.bytes(name)?,
                 "run" => call.run = self.run(name)?,
                 "scheme" => call.scheme = self.number(name)?,
+                "mark" => call.mark = self.mark(name)?,
                 "values" => call.values = self.bytes(name)?,
                 "zero" => call.zero = self.bytes(name)?,
                 "one" => call.one = self.bytes(name)?,

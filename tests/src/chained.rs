@@ -6,8 +6,8 @@ use crate::circuit::Circuit;
 use crate::evaluator::SCHEMES;
 use crate::generate;
 use crate::lines;
-use crate::material;
-use crate::operations as op;
+use crate::material::{self, Mark};
+use crate::operations::{self as op, Wanted};
 use crate::random::Random;
 use crate::refused::Refused;
 use crate::scheme::Scheme;
@@ -25,6 +25,8 @@ pub struct Chain {
     pub values: Vec<u8>,
     /// Garble's scheme byte.
     pub scheme: u8,
+    /// The mark of the material.
+    pub mark: u16,
     fill: u8,
     /// The lengths of the buffers: material, zero tokens, one tokens, tokens, wires, bits.
     pub lens: [usize; 6],
@@ -49,9 +51,14 @@ impl Chain {
     /// Runs the calls in turn, up to the first that refuses, in the buffers given.
     fn run_in(&self, buffers: &mut [Vec<u8>; 6]) -> Ended {
         let [material, zeros, ones, tokens, wires, bits] = buffers;
-        let (circuit, seed, scheme) = (&self.circuit, &self.seed, self.scheme);
+        let (circuit, seed) = (&self.circuit, &self.seed);
         let by = |call: u8| move |refused: Refused| (call, refused);
-        let garbled = op::garble(circuit, seed, self.run, scheme, material, zeros, ones);
+        let wanted = Wanted {
+            run: self.run,
+            scheme: self.scheme,
+            mark: self.mark,
+        };
+        let garbled = op::garble(circuit, seed, wanted, material, zeros, ones);
         let length = garbled.map_err(by(1))?.length as usize;
         let sizes = op::check(circuit).map_err(by(1))?;
         let list = BLOCK * sizes.n;
@@ -69,12 +76,14 @@ impl Chain {
     pub fn case(&self, due: Due) -> String {
         assert_eq!(self.run, 0, "a line that has no run number");
         assert_eq!(self.output_room, OUTPUT_ROOM, "a line that does not say it");
+        assert_eq!(self.mark, Mark::Colours.number(), "a line that has no mark");
         lines::line(&self.fields(due))
     }
 
     /// The line of a chain that has its run number.
     pub fn case_with_run(&self, due: Due) -> String {
         assert_eq!(self.output_room, OUTPUT_ROOM, "a line that does not say it");
+        assert_eq!(self.mark, Mark::Colours.number(), "a line that has no mark");
         let mut fields = self.fields(due);
         lines::add_run(&mut fields[SETTING], self.run);
         lines::line(&fields)
@@ -82,11 +91,24 @@ impl Chain {
 
     /// The line of a chain that has its run number and the room for the outputs' tokens.
     pub fn case_with_room(&self, due: Due) -> String {
+        assert_eq!(self.mark, Mark::Colours.number(), "a line that has no mark");
+        lines::line(&self.fields_with_room(due))
+    }
+
+    /// The line of a chain that has its run number, the room for the outputs' tokens and its mark.
+    pub fn case_with_mark(&self, due: Due) -> String {
+        let mut fields = self.fields_with_room(due);
+        lines::add_mark(&mut fields[SETTING], self.mark);
+        lines::line(&fields)
+    }
+
+    /// The fields of the chain, with its run number and the room for the outputs' tokens in the setting.
+    fn fields_with_room(&self, due: Due) -> [Vec<u8>; 7] {
         let mut fields = self.fields(due);
         lines::add_run(&mut fields[SETTING], self.run);
         assert!(self.output_room <= OUTPUT_ROOM, "more than `vectors` has");
         fields[SETTING].extend((self.output_room as u32).to_be_bytes());
-        lines::line(&fields)
+        fields
     }
 
     /// The fields of the chain: circuit, seed, values, setting, answer, and the buffers of the wires
@@ -133,7 +155,7 @@ fn chain(random: &mut Random, scheme: Scheme) -> Chain {
 pub fn chain_on(random: &mut Random, scheme: Scheme, circuit: Vec<u8>) -> Chain {
     let sizes = op::check(&circuit).expect("an accepted circuit");
     let (list, wires) = (BLOCK * sizes.n, BLOCK * sizes.wires());
-    let material = material::length(sizes, scheme);
+    let material = material::length(sizes, scheme, Mark::Colours);
     let needed = [material, wires, list, list, wires, sizes.m];
     Chain {
         circuit,
@@ -141,6 +163,7 @@ pub fn chain_on(random: &mut Random, scheme: Scheme, circuit: Vec<u8>) -> Chain 
         run: 0,
         values: generate::values(random, sizes.n),
         scheme: scheme.byte(),
+        mark: Mark::Colours.number(),
         fill: random.byte(),
         lens: needed.map(|length| length + random.below(20)),
         output_room: OUTPUT_ROOM,

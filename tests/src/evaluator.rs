@@ -5,8 +5,8 @@ use crate::block::BLOCK;
 use crate::call::{Call, Operation};
 use crate::circuit::{to_bytes, Circuit, Gate, Sizes};
 use crate::generate;
-use crate::material;
-use crate::operations as op;
+use crate::material::{self, Mark};
+use crate::operations::{self as op, Wanted};
 use crate::random::Random;
 use crate::scheme::Scheme;
 
@@ -90,8 +90,7 @@ pub fn own(random: &mut Random, operation: Operation, bytes: &[u8], scheme: Sche
     own_from(random, operation, bytes, scheme, &seed)
 }
 
-/// Calls on a garbling of run 0 made here, one for each list of input values: evaluate on the tokens of the
-/// inputs, decode on those of the outputs that come of it.
+/// Calls on a garbling of run 0 made here, with colours.
 pub fn own_from(
     random: &mut Random,
     operation: Operation,
@@ -99,13 +98,29 @@ pub fn own_from(
     scheme: Scheme,
     seed: &[u8],
 ) -> Vec<Call> {
+    own_by(random, operation, bytes, (scheme, Mark::Colours), seed)
+}
+
+/// Calls on a garbling of run 0 made here by a scheme and with a mark, one for each list of input values:
+/// evaluate on the tokens of the inputs, decode on those of the outputs that come of it.
+pub fn own_by(
+    random: &mut Random,
+    operation: Operation,
+    bytes: &[u8],
+    (scheme, mark): (Scheme, Mark),
+    seed: &[u8],
+) -> Vec<Call> {
     let sizes = op::check(bytes).expect("an accepted circuit");
     let Sizes { n, m, .. } = sizes;
     let wires = BLOCK * sizes.wires();
-    let mut material = vec![0; material::length(sizes, scheme)];
+    let mut material = vec![0; material::length(sizes, scheme, mark)];
     let (mut zeros, mut ones) = (vec![0; wires], vec![0; BLOCK * n]);
-    let byte = scheme.byte();
-    op::garble(bytes, seed, 0, byte, &mut material, &mut zeros, &mut ones).expect("room");
+    let wanted = Wanted {
+        run: 0,
+        scheme: scheme.byte(),
+        mark: mark.number(),
+    };
+    op::garble(bytes, seed, wanted, &mut material, &mut zeros, &mut ones).expect("room");
     let call = |values: Vec<u8>| {
         let (mut tokens, mut held) = (vec![0; BLOCK * n], vec![0; wires]);
         op::encode(bytes, &values, &zeros[..BLOCK * n], &ones, &mut tokens).expect("room");
@@ -158,7 +173,8 @@ pub fn tampered(call: &Call) -> Vec<Call> {
     let material = &call.material;
     let sizes = op::check(&call.circuit).expect("an accepted circuit");
     let length = material.len();
-    let last = length - sizes.m - 2;
+    let mark = Mark::of(material).expect("a mark");
+    let last = length - mark.last_length(sizes.m);
     let record = (last - 9) / sizes.p;
     let mut calls: Vec<Call> = (0..9).map(|length| with_length(call, length, 12)).collect();
     calls.extend((0..2).map(|at| changed(call, at, material[at] ^ 1, 13)));
@@ -170,7 +186,12 @@ pub fn tampered(call: &Call) -> Vec<Call> {
         calls.extend((start..start + 4).map(|at| changed(call, at, material[at] ^ 1, 17)));
     }
     calls.extend((last..last + 2).map(|at| changed(call, at, material[at] ^ 1, 18)));
-    for at in last + 2..length {
+    // Hashes are of any bytes.
+    let colours = match mark {
+        Mark::Colours => last + 2..length,
+        Mark::Hashes => length..length,
+    };
+    for at in colours {
         calls.extend([2, 255].map(|byte| changed(call, at, byte, 18)));
     }
     calls

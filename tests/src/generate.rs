@@ -3,6 +3,7 @@
 
 pub mod damage;
 pub mod edges;
+pub mod hashes;
 pub mod limits;
 pub mod mixed;
 pub mod outputs;
@@ -11,11 +12,12 @@ use crate::block::{Block, Colour, BLOCK};
 use crate::call::{Call, Operation};
 use crate::circuit::{to_bytes, Circuit, Gate, Sizes};
 use crate::comparator;
-use crate::material::{self, Material};
-use crate::operations;
+use crate::material::{self, Last, Mark, Material};
+use crate::operations::{self, Wanted};
 use crate::random::Random;
 use crate::scheme::Scheme;
 
+use hashes::any_mark;
 use outputs::any_outputs;
 
 // 01's codes. The stored files of cases are drawn from these two lists: a longer one would change
@@ -141,39 +143,55 @@ pub fn tokens(random: &mut Random, count: usize) -> Vec<u8> {
     random.bytes(BLOCK * count)
 }
 
-/// A stranger's material: well-formed for the circuit, with random rows and colours.
-pub fn stranger(random: &mut Random, circuit: &Circuit, scheme: Scheme) -> Vec<u8> {
-    let Sizes { m, p, .. } = circuit.sizes();
+/// Any rows for each charged gate.
+fn rows(random: &mut Random, circuit: &Circuit, scheme: Scheme) -> Vec<Vec<Block>> {
     let length = BLOCK * scheme.rows();
-    let rows = (0..p).map(|_| Block::list(&random.bytes(length))).collect();
-    let colours = (0..m).map(|_| Colour(random.chance(50))).collect();
-    let material = Material {
-        scheme,
-        rows,
-        colours,
-    };
-    material.to_bytes(circuit)
+    let gates = 0..circuit.sizes().p;
+    gates.map(|_| Block::list(&random.bytes(length))).collect()
 }
 
-/// The material that garbling the circuit from some seed makes, in run 0.
-pub fn garbled(random: &mut Random, circuit: &Circuit, scheme: Scheme) -> Vec<u8> {
+/// A stranger's material: well-formed for the circuit, with random rows and colours.
+pub fn stranger(random: &mut Random, circuit: &Circuit, scheme: Scheme) -> Vec<u8> {
+    let rows = rows(random, circuit, scheme);
+    let colours = (0..circuit.sizes().m).map(|_| Colour(random.chance(50)));
+    let last = Last::Colours(colours.collect());
+    Material { scheme, rows, last }.to_bytes(circuit)
+}
+
+/// What garbling a circuit makes.
+struct Garbling {
+    material: Vec<u8>,
+    zeros: Vec<u8>,
+    ones: Vec<u8>,
+}
+
+/// What garbling the circuit from some seed makes, in run 0.
+fn garbling(random: &mut Random, circuit: &Circuit, scheme: Scheme, mark: Mark) -> Garbling {
     let sizes = circuit.sizes();
-    let mut material = vec![0; material::length(sizes, scheme)];
-    let mut zeros = vec![0; BLOCK * sizes.wires()];
-    let mut ones = vec![0; BLOCK * sizes.n];
+    let mut made = Garbling {
+        material: vec![0; material::length(sizes, scheme, mark)],
+        zeros: vec![0; BLOCK * sizes.wires()],
+        ones: vec![0; BLOCK * sizes.n],
+    };
+    let wanted = Wanted {
+        run: 0,
+        scheme: scheme.byte(),
+        mark: mark.number(),
+    };
     let (bytes, seed) = (circuit.to_bytes(), seed(random));
-    let scheme = scheme.byte();
-    operations::garble(
-        &bytes,
-        &seed,
-        0,
-        scheme,
-        &mut material,
-        &mut zeros,
-        &mut ones,
-    )
-    .expect("an accepted circuit, a seed and room");
-    material
+    let Garbling {
+        material,
+        zeros,
+        ones,
+    } = &mut made;
+    operations::garble(&bytes, &seed, wanted, material, zeros, ones)
+        .expect("an accepted circuit, a seed and room");
+    made
+}
+
+/// The material with colours that garbling the circuit from some seed makes, in run 0.
+pub fn garbled(random: &mut Random, circuit: &Circuit, scheme: Scheme) -> Vec<u8> {
+    garbling(random, circuit, scheme, Mark::Colours).material
 }
 
 /// A call of the operation that is not refused.
@@ -182,19 +200,20 @@ pub fn call(random: &mut Random, operation: Operation) -> Call {
     call_on(random, operation, &bytes)
 }
 
-/// A call of the operation that is not refused, on a circuit of all codes and either mark, by any scheme;
-/// of garble in any run.
+/// A call of the operation that is not refused, on a circuit of all codes and either mark, by any scheme and
+/// with material of either mark; of garble in any run.
 pub fn any_call(random: &mut Random, operation: Operation) -> Call {
     let bytes = any_small_circuit(random);
     let bytes = any_outputs(random, operation, bytes);
     let mut call = call_on(random, operation, &bytes);
     any_scheme(random, &mut call);
+    any_mark(random, &mut call);
     add_run(random, &mut call);
     call
 }
 
-/// A call of the operation on an accepted circuit, not refused, by a scheme of 01; buffers have some
-/// bytes to spare. Of garble it is in run 0.
+/// A call of the operation on an accepted circuit, not refused, by a scheme of 01 and with the mark 47 48;
+/// buffers have some bytes to spare. Of garble it is in run 0.
 pub fn call_on(random: &mut Random, operation: Operation, bytes: &[u8]) -> Call {
     let circuit = Circuit::read(bytes).expect("an accepted circuit");
     let Sizes { n, m, .. } = circuit.sizes();
@@ -270,6 +289,11 @@ pub fn rekey(random: &mut Random, call: &mut Call) {
         }
         _ => {}
     }
+    refit(call, before);
+}
+
+/// Gives the buffers of a sound call, which needed `before`, the room needed now: what they had to spare stays.
+fn refit(call: &mut Call, before: Vec<usize>) {
     let needed = room(call).expect("a sound call");
     for ((len, before), needed) in call.lens.iter_mut().zip(before).zip(needed) {
         *len = *len - before + needed;
@@ -316,8 +340,8 @@ fn add_lists(random: &mut Random, call: &mut Call, count: usize) {
     call.bit = random.below(2) as u8;
 }
 
-/// The bytes that the call's output buffers need, in 01's order; nothing where its circuit, its scheme or
-/// its width is refused.
+/// The bytes that the call's output buffers need, in 01's order; nothing where its circuit, its scheme, its
+/// mark or its width is refused.
 pub fn room(call: &Call) -> Option<Vec<usize>> {
     match call.operation {
         Operation::Check | Operation::Pick => return Some(Vec::new()),
@@ -331,7 +355,8 @@ pub fn room(call: &Call) -> Option<Vec<usize>> {
         Operation::Plain => vec![wires],
         Operation::Garble => {
             let scheme = Scheme::from_byte(call.scheme)?;
-            vec![material::length(sizes, scheme), BLOCK * wires, BLOCK * n]
+            let length = material::length(sizes, scheme, Mark::from_number(call.mark)?);
+            vec![length, BLOCK * wires, BLOCK * n]
         }
         Operation::Encode => vec![BLOCK * n],
         Operation::OutputTokens => vec![BLOCK * m],

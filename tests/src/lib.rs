@@ -1,4 +1,4 @@
-//! A second implementation of document 01 ("01" below) with jobs 1, 2, 4, 7 and 8 of document 02
+//! A second implementation of document 01 ("01" below) with jobs 1, 2, 4, 7, 8 and 12 of document 02
 //! ("02"), written from the papers alone, and what the tests need around it: calls as values, a reader of
 //! stored cases and a generator of new ones.
 
@@ -12,11 +12,13 @@ pub mod cases;
 pub mod chained;
 pub mod cipher;
 pub mod circuit;
+pub mod clash;
 pub mod comparator;
 pub mod compared;
 pub mod evaluator;
 pub mod filled;
 pub mod generate;
+pub mod hashed;
 pub mod hex;
 pub mod interface;
 pub mod large;

@@ -4,6 +4,7 @@
 use crate::call::{Call, Operation, Outcome};
 use crate::circuit::Gate;
 use crate::hex;
+use crate::material::Mark;
 use crate::refused::Refused;
 
 /// A line of fields, one space between two; "--" stands for no byte.
@@ -117,17 +118,31 @@ fn fields(call: &Call, expected: &Outcome) -> Vec<Vec<u8>> {
     fields
 }
 
-/// The line of a call and of what must come of it. One of garble is of run 0.
+/// The mark of a line that has none: 47 48.
+const NO_MARK: u16 = Mark::Colours.number();
+
+/// The line of a call and of what must come of it. One of garble is of run 0 and of mark 47 48.
 pub fn case(call: &Call, expected: &Outcome) -> String {
     assert_eq!(call.run, 0, "a line that has no run number");
+    assert_eq!(call.mark, NO_MARK, "a line that has no mark");
     line(&fields(call, expected))
 }
 
-/// The line of a garbling that has its run number.
+/// The line of a garbling that has its run number. It is of mark 47 48.
 pub fn case_with_run(call: &Call, expected: &Outcome) -> String {
     assert_eq!(call.operation, Operation::Garble, "no other has a run");
+    assert_eq!(call.mark, NO_MARK, "a line that has no mark");
     let mut fields = fields(call, expected);
     add_run(&mut fields[GARBLE_SETTING], call.run);
+    line(&fields)
+}
+
+/// The line of a garbling that has its run number and its mark.
+pub fn case_with_mark(call: &Call, expected: &Outcome) -> String {
+    assert_eq!(call.operation, Operation::Garble, "no other has a mark");
+    let mut fields = fields(call, expected);
+    add_run(&mut fields[GARBLE_SETTING], call.run);
+    add_mark(&mut fields[GARBLE_SETTING], call.mark);
     line(&fields)
 }
 
@@ -138,6 +153,12 @@ const GARBLE_SETTING: usize = 2;
 /// job 4). A setting without these is of run 0.
 pub fn add_run(setting: &mut Vec<u8>, run: u64) {
     setting.extend(run.to_be_bytes());
+}
+
+/// Adds the mark to the setting of a garbling or of a chain, after the run number and all else: 2 bytes,
+/// big-endian (02, job 12). A setting without these is of mark 47 48.
+pub fn add_mark(setting: &mut Vec<u8>, mark: u16) {
+    setting.extend(mark.to_be_bytes());
 }
 
 /// The case of evaluate's list form on a line: the call, and what must come of it. Nothing where the

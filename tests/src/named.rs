@@ -313,7 +313,7 @@ fn faults(random: &mut Random, operation: Operation) -> Vec<Call> {
 /// Every condition of the operation alone, and 25 and 26 each with every other; of the outputs' tokens, which
 /// no other file has, every two.
 fn damaged(random: &mut Random, operation: Operation) -> Vec<Call> {
-    let numbers = operation.refusals();
+    let numbers = operation.refusals_of_job_8();
     let mut calls = Vec::new();
     for (index, &first) in numbers.iter().enumerate() {
         for &second in &numbers[index..] {

@@ -1,12 +1,24 @@
-//! The operations on lent bytes (01, Operations; 02, jobs 4 and 8). Conditions are tried in rising number, 25
-//! and 26 right after 7, and nothing is written before the last of them.
+//! The operations on lent bytes (01, Operations; 02, jobs 4, 8 and 12). Conditions are tried in rising number, 25
+//! and 26 right after 7, and nothing is written before the last of them. Garble's 30 alone changes buffers.
 
 use crate::block::{Block, Colour, BLOCK};
+use crate::cipher::Cipher;
 use crate::circuit::{Circuit, Gate, Kind, Sizes, Truth};
-use crate::material::{self, read_scheme, Material};
+use crate::material::{self, read_mark, read_scheme, Last, Mark, Material};
 use crate::refused::{refuse_if, Refused};
-use crate::scheme::{Evaluator, Garbler, Scheme};
+use crate::scheme::{output_hash, Evaluator, Garbler};
 use crate::token::Seed;
+
+/// What garbling is asked for beside the circuit and the seed. No run number is refused.
+#[derive(Clone, Copy, Debug, PartialEq, Eq)]
+pub struct Wanted {
+    /// The run number (02, job 4).
+    pub run: u64,
+    /// The scheme byte.
+    pub scheme: u8,
+    /// The material's mark, as a number (02, job 12).
+    pub mark: u16,
+}
 
 /// What garble returns.
 #[derive(Clone, Copy, Debug, PartialEq, Eq)]
@@ -67,13 +79,11 @@ pub fn plain(circuit: &[u8], values: &[u8], wires: &mut [u8]) -> Result<(), Refu
     Ok(())
 }
 
-/// Garble: the material, the zero tokens of all wires, the one tokens of the inputs. No run number is
-/// refused.
+/// Garble: the material, the zero tokens of all wires, the one tokens of the inputs.
 pub fn garble(
     circuit: &[u8],
     seed: &[u8],
-    run: u64,
-    scheme: u8,
+    wanted: Wanted,
     material: &mut [u8],
     zeros: &mut [u8],
     ones: &mut [u8],
@@ -81,31 +91,48 @@ pub fn garble(
     let circuit = Circuit::read(circuit)?;
     let sizes = circuit.sizes();
     let seed = read_seed(seed)?;
-    let scheme = read_scheme(scheme)?;
-    let length = material::length(sizes, scheme);
+    let mark = read_mark(wanted.mark)?;
+    let scheme = read_scheme(wanted.scheme)?;
+    let length = material::length(sizes, scheme, mark);
     check_room(material, length)?;
     check_room(zeros, BLOCK * sizes.wires())?;
     check_room(ones, BLOCK * sizes.n)?;
 
-    let mut garbler = Garbler::new(scheme, Seed::new(seed, run));
-    let (made, zero_tokens) = garble_wires(&circuit, &mut garbler, scheme);
-    let one_token = |&zero: &Block| garbler.token(zero, Truth(true));
-    let one_tokens: Vec<Block> = zero_tokens[..sizes.n].iter().map(one_token).collect();
-    material[..length].copy_from_slice(&made.to_bytes(&circuit));
-    write_blocks(zeros, &zero_tokens);
-    write_blocks(ones, &one_tokens);
+    let mut garbler = Garbler::new(scheme, Seed::new(seed, wanted.run));
+    let (rows, zero_tokens) = garble_wires(&circuit, &mut garbler);
+    let last = garble_outputs(mark, &circuit.of_outputs(&zero_tokens), &mut garbler);
+    let clash = last.clash();
+    let file = Material { scheme, rows, last }.to_bytes(&circuit);
+    let one_token = |&zero: &Block| garbler.token(zero, Truth(true)).0;
+    let one_tokens: Vec<u8> = zero_tokens[..sizes.n].iter().flat_map(one_token).collect();
+    let zero_tokens: Vec<u8> = zero_tokens.iter().flat_map(|token| token.0).collect();
+    let made: [&[u8]; 3] = [&file, &zero_tokens, &one_tokens];
+    leave(made, [material, zeros, ones], clash)?;
     Ok(Garbled {
         length: length as u64,
         calls: garbler.calls(),
     })
 }
 
-/// The material and the zero tokens of all wires.
-fn garble_wires(
-    circuit: &Circuit,
-    garbler: &mut Garbler,
-    scheme: Scheme,
-) -> (Material, Vec<Block>) {
+/// What a garbling leaves at the front of its buffers: the bytes made, or where it clashes, which is refusal 30,
+/// as many zeros (02, job 12).
+pub fn leave(
+    made: [&[u8]; 3],
+    buffers: [&mut [u8]; 3],
+    clash: Result<(), Refused>,
+) -> Result<(), Refused> {
+    for (bytes, buffer) in made.into_iter().zip(buffers) {
+        let front = &mut buffer[..bytes.len()];
+        match clash {
+            Ok(()) => front.copy_from_slice(bytes),
+            Err(_) => front.fill(0),
+        }
+    }
+    clash
+}
+
+/// The rows of the charged gates, and the zero tokens of all wires.
+fn garble_wires(circuit: &Circuit, garbler: &mut Garbler) -> (Vec<Vec<Block>>, Vec<Block>) {
     let Sizes { n, p, .. } = circuit.sizes();
     let mut rows = Vec::with_capacity(p);
     let inputs = (1..=n).map(|wire| garbler.input(wire)).collect();
@@ -116,14 +143,19 @@ fn garble_wires(
         }
         garbled.zero
     });
-    let outputs = circuit.of_outputs(&zeros);
-    let colours = outputs.iter().map(|zero| zero.colour()).collect();
-    let material = Material {
-        scheme,
-        rows,
-        colours,
-    };
-    (material, zeros)
+    (rows, zeros)
+}
+
+/// What the last record has of the outputs, by the mark, from their zero tokens.
+fn garble_outputs(mark: Mark, zeros: &[Block], garbler: &mut Garbler) -> Last {
+    match mark {
+        Mark::Colours => Last::Colours(zeros.iter().map(|zero| zero.colour()).collect()),
+        Mark::Hashes => {
+            let outputs = zeros.iter().zip(1..);
+            let hashes = outputs.map(|(&zero, k)| garbler.output_hashes(zero, k));
+            Last::Hashes(hashes.collect())
+        }
+    }
 }
 
 /// Encode: for each input its token in the zero list for value 0, in the one list for value 1.
@@ -202,7 +234,7 @@ pub fn output_tokens(circuit: &[u8], wires: &[u8], tokens: &mut [u8]) -> Result<
     Ok(())
 }
 
-/// Decode: for each output the token's colour ⊕ the material's byte. Any tokens decode.
+/// Decode: a bit for each output, by what the material has of it.
 pub fn decode(
     circuit: &[u8],
     tokens: &[u8],
@@ -213,11 +245,34 @@ pub fn decode(
     let tokens = read_tokens(tokens, circuit.sizes().m)?;
     let material = Material::read(material, &circuit)?;
     check_room(values, circuit.sizes().m)?;
-    for ((byte, token), zero) in values.iter_mut().zip(tokens).zip(material.colours) {
-        let Colour(held) = token.colour();
-        *byte = u8::from(held ^ zero.0);
+    let bits = match material.last {
+        Last::Colours(colours) => by_colours(&tokens, &colours),
+        Last::Hashes(hashes) => by_hashes(&tokens, &hashes)?,
+    };
+    for (byte, bit) in values.iter_mut().zip(bits) {
+        *byte = u8::from(bit);
     }
     Ok(())
+}
+
+/// The token's colour ⊕ the zero token's, for each output. Any tokens decode.
+fn by_colours(tokens: &[Block], colours: &[Colour]) -> Vec<bool> {
+    let outputs = tokens.iter().zip(colours);
+    let bit = |(token, zero): (&Block, &Colour)| token.colour().0 ^ zero.0;
+    outputs.map(bit).collect()
+}
+
+/// 0 where the token's hash is the first of its output's, else 1 where it is the second; else 29, with the
+/// first such output, counted from 1 (02, job 12). No count is kept of these encryptions.
+fn by_hashes(tokens: &[Block], hashes: &[[Block; 2]]) -> Result<Vec<bool>, Refused> {
+    let mut cipher = Cipher::default();
+    let outputs = tokens.iter().zip(hashes).zip(1..);
+    let bit = |((&token, stored), k): ((&Block, &[Block; 2]), usize)| {
+        let hash = output_hash(&mut cipher, token, k);
+        let agrees = stored.iter().position(|&stored| stored == hash);
+        agrees.map(|bit| bit == 1).ok_or(Refused::new(29, k))
+    };
+    outputs.map(bit).collect()
 }
 
 /// The check of pick's arguments.

@@ -1,6 +1,6 @@
-//! What the program prints for what it reads (01, Table of examples).
+//! What the program prints for what it reads (01, Table of examples): the lengths are those of the mark 47 48.
 
-use crate::material::length;
+use crate::material::{length, Mark};
 use crate::operations::check;
 use crate::scheme::Scheme;
 
@@ -17,7 +17,7 @@ pub fn output(input: &[u8]) -> String {
         Ok(sizes) => {
             let first = format!("{} {} {} {}", sizes.n, sizes.m, sizes.q, sizes.p);
             let schemes = [Scheme::GaX, Scheme::GaXR, Scheme::HalfGates];
-            let [gax, gaxr, half] = schemes.map(|scheme| length(sizes, scheme));
+            let [gax, gaxr, half] = schemes.map(|scheme| length(sizes, scheme, Mark::Colours));
             format!("{first}\n{gax} {gaxr} {half}\n")
         }
     }

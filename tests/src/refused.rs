@@ -3,7 +3,7 @@
 /// A refusal is its number and a place.
 #[derive(Clone, Copy, Debug, PartialEq, Eq)]
 pub struct Refused {
-    /// The number of the condition that holds, 1 to 21, 25 or 26.
+    /// The number of the condition that holds, 1 to 21, 25, 26, 29 or 30.
     pub number: u8,
     /// The place that 01 or 02 names behind the condition.
     pub place: u64,

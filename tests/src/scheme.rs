@@ -83,6 +83,12 @@ fn rekeyed_hash(cipher: &mut Cipher, x: Block, i: usize) -> Block {
     cipher.hash(Block::number(i), x.sigma())
 }
 
+/// What material with hashes has of the k-th output's token, k from 1: H(token, 2(65,536+k)), with the H of
+/// scheme 3 whatever the scheme is (02, job 12).
+pub fn output_hash(cipher: &mut Cipher, token: Block, k: usize) -> Block {
+    fixed_key_hash(cipher, token, 2 * (65_536 + k))
+}
+
 /// α, β and γ of a charged code (01, Scheme 3).
 #[derive(Clone, Copy, Debug, PartialEq, Eq)]
 pub struct HalfGateBits {
@@ -159,6 +165,12 @@ impl Garbler {
     /// The encryptions made so far, those under the seed not counted.
     pub fn calls(&self) -> u64 {
         self.cipher.calls()
+    }
+
+    /// The hashes of the k-th output's zero token and one token: two encryptions, which count (02, job 12).
+    pub fn output_hashes(&mut self, zero: Block, k: usize) -> [Block; 2] {
+        let tokens = [false, true].map(|value| self.token(zero, Truth(value)));
+        tokens.map(|token| output_hash(&mut self.cipher, token, k))
     }
 
     /// Garbles the gate on wire g, whose operands have the zero tokens xa and xb.

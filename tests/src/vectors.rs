@@ -6,10 +6,12 @@ use crate::block::Colour;
 use crate::call::{Call, Operation};
 use crate::cases::{self, Asked};
 use crate::chained;
+use crate::clash;
 use crate::compared;
 use crate::evaluator;
 use crate::filled;
 use crate::generate::{self, damage};
+use crate::hashed;
 use crate::large::{self, Rule};
 use crate::lines;
 use crate::listed;
@@ -88,6 +90,26 @@ const NAMED: [(&str, Operation); 6] = [
     ("decode-named", Operation::Decode),
 ];
 
+/// The files of new cases of material that ends in hashes.
+const HASHED: [(&str, Operation); 3] = [
+    ("evaluate-hashed", Operation::Evaluate),
+    ("evaluate-gates-hashed", Operation::EvaluateGates),
+    ("decode-hashed", Operation::Decode),
+];
+
+/// All files of material that ends in hashes, with those of refusal 30.
+fn hashed_cases() -> Vec<(&'static str, String)> {
+    let of = |(name, operation)| (name, cases_of(&hashed::calls(operation)));
+    let mut files: Vec<_> = HASHED.into_iter().map(of).collect();
+    files.extend([
+        ("chain-hashed", hashed::chains()),
+        ("garble-hashed", hashed::garblings()),
+        ("clash", clash::searches()),
+        ("zeroed", clash::zeros()),
+    ]);
+    files
+}
+
 /// The files of new cases whose buffers say nothing of whether a call is refused.
 fn filled_cases() -> [(&'static str, String); 4] {
     [
@@ -131,7 +153,7 @@ pub fn files() -> Vec<File> {
     add("chain-named", named::chains());
     add("garble-named", named::garblings());
     add("chain-comparator", compared::chains());
-    for (name, text) in filled_cases() {
+    for (name, text) in hashed_cases().into_iter().chain(filled_cases()) {
         add(name, text);
     }
     files.extend(wrong::files(&files));

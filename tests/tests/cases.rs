@@ -1,6 +1,7 @@
 //! Every stored case of a third reading of 01 (`data/base.jsonl`, 500 cases), of 01 with 02's job 2
 //! (`job02.jsonl`, 300), with its jobs 2 and 4 (`job04.jsonl`, 300), with its jobs 2, 4 and 7 (`job07.jsonl`,
-//! 300), and with its jobs 2, 4, 7 and 8 (`job08.jsonl`, 400): answers and whole buffers.
+//! 300), with its jobs 2, 4, 7 and 8 (`job08.jsonl`, 400), and with job 12 too, which has cases of garble, evaluate
+//! and decode alone (`job12.jsonl`, 500): answers and whole buffers.
 
 use std::collections::BTreeMap;
 
@@ -8,9 +9,9 @@ use second::cases::{self, Asked, Case};
 use second::program;
 
 /// The cases that a file has for each operation.
-type Counts = [(&'static str, usize); 9];
+type Counts<'a> = &'a [(&'static str, usize)];
 
-const BASE: Counts = [
+const BASE: Counts = &[
     ("check", 63),
     ("decode", 62),
     ("encode", 63),
@@ -23,7 +24,7 @@ const BASE: Counts = [
 ];
 
 /// Of 01 with jobs of 02 before job 8: each of these files has as many.
-const AMENDED: Counts = [
+const AMENDED: Counts = &[
     ("check", 38),
     ("decode", 38),
     ("encode", 37),
@@ -36,7 +37,7 @@ const AMENDED: Counts = [
 ];
 
 /// Of 01 with 02's jobs 2, 4, 7 and 8.
-const NAMED: Counts = [
+const NAMED: Counts = &[
     ("check", 50),
     ("decode", 50),
     ("encode", 50),
@@ -46,6 +47,14 @@ const NAMED: Counts = [
     ("pick", 25),
     ("plain", 50),
     ("program", 25),
+];
+
+/// Of 01 with 02's jobs 2, 4, 7, 8 and 12.
+const HASHED: Counts = &[
+    ("decode", 125),
+    ("evaluate", 187),
+    ("evaluate_list", 63),
+    ("garble", 125),
 ];
 
 fn compare(case: &Case) {
@@ -98,4 +107,9 @@ fn all_cases_with_scheme_4_agree() {
 #[test]
 fn all_cases_with_named_outputs_agree() {
     compare_all(include_str!("../data/job08.jsonl"), NAMED);
+}
+
+#[test]
+fn all_cases_with_hashes_agree() {
+    compare_all(include_str!("../data/job12.jsonl"), HASHED);
 }

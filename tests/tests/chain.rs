@@ -1,7 +1,7 @@
 //! The chain garble, encode, evaluate, the outputs' tokens, decode of demand 3, on one circuit (01,
-//! Operations; 02, jobs 4, 7 and 8): compared with the plain circuit at every wire and every output bit, by
-//! each of the four schemes, in run 0 and in others, with outputs that are the last wires and with named
-//! ones.
+//! Operations; 02, jobs 4, 7, 8 and 12): compared with the plain circuit at every wire and every output bit, by
+//! each of the four schemes and with both marks of material, in run 0 and in others, with outputs that are the
+//! last wires and with named ones.
 
 use std::collections::BTreeSet;
 
@@ -10,7 +10,9 @@ use second::circuit::{Circuit, Sizes};
 use second::generate;
 use second::generate::outputs::named;
 use second::large::coloured_seed;
+use second::material::Mark;
 use second::operations::{decode, encode, evaluate, evaluate_gates, garble, output_tokens, plain};
+use second::operations::{Garbled, Wanted};
 use second::random::Random;
 use second::scheme::Scheme;
 use second::token::Seed;
@@ -53,33 +55,44 @@ fn outputs(bytes: &[u8]) -> Vec<usize> {
     }
 }
 
+/// What garble returns: 9+p(4+16r)+2+m bytes and 4p encryptions, and with hashes 32m for m and 2m encryptions
+/// more.
+fn garbled_to(sizes: Sizes, scheme: Scheme, mark: Mark) -> Garbled {
+    let (m, p) = (sizes.m, sizes.p);
+    let (last, hashes) = match mark {
+        Mark::Colours => (m, 0),
+        Mark::Hashes => (32 * m, 2 * m),
+    };
+    let (rows, _) = rows_and_calls(scheme);
+    Garbled {
+        length: (9 + p * (4 + BLOCK * rows) + 2 + last) as u64,
+        calls: (4 * p + hashes) as u64,
+    }
+}
+
 /// Runs the chain in buffers of exactly the bytes named, and checks what the calls return.
-fn run(bytes: &[u8], scheme: Scheme, source: Source, values: &[u8]) -> Chain {
+fn run(bytes: &[u8], (scheme, mark): (Scheme, Mark), source: Source, values: &[u8]) -> Chain {
     let circuit = Circuit::read(bytes).expect("an accepted circuit");
     let sizes = circuit.sizes();
     let Sizes { n, m, p, .. } = sizes;
-    let (rows, calls) = rows_and_calls(scheme);
-    let length = 11 + m + p * (4 + BLOCK * rows);
+    let due = garbled_to(sizes, scheme, mark);
+    let length = due.length as usize;
     let (mut material, mut zeros) = (vec![0; length], vec![0; BLOCK * sizes.wires()]);
     let (mut ones, mut tokens) = (vec![0; BLOCK * n], vec![0; BLOCK * n]);
     let (mut held, mut decoded) = (vec![0; BLOCK * sizes.wires()], vec![0; m]);
-    let (Source { seed, run }, byte) = (source, scheme.byte());
-    let garbled = garble(
-        bytes,
-        &seed,
+    let Source { seed, run } = source;
+    let wanted = Wanted {
         run,
-        byte,
-        &mut material,
-        &mut zeros,
-        &mut ones,
-    );
-    let returned = garbled.map(|garbled| (garbled.length, garbled.calls));
-    assert_eq!(returned, Ok((length as u64, 4 * p as u64)));
+        scheme: scheme.byte(),
+        mark: mark.number(),
+    };
+    let garbled = garble(bytes, &seed, wanted, &mut material, &mut zeros, &mut ones);
+    assert_eq!(garbled, Ok(due));
     assert_eq!(
         encode(bytes, values, &zeros[..BLOCK * n], &ones, &mut tokens),
         Ok(())
     );
-    let calls = (calls * p) as u64;
+    let calls = (rows_and_calls(scheme).1 * p) as u64;
     let evaluated = evaluate(bytes, &tokens, &material, &mut held);
     assert_eq!(evaluated, Ok(calls));
     let mut chosen = vec![0; BLOCK * m];
@@ -107,12 +120,19 @@ fn check_list_form(circuit: &Circuit, tokens: &[u8], material: &[u8], calls: u64
     assert!(by_list == held, "list form: other tokens");
 }
 
-/// Demand 3: the distance on every wire, which is R of the run, and the decoded bits.
+/// Demand 3 with both marks.
 fn check_chain(bytes: &[u8], scheme: Scheme, source: Source, values: &[u8], name: &str) {
+    for mark in Mark::ALL {
+        check_chain_by(bytes, (scheme, mark), source, values, name);
+    }
+}
+
+/// Demand 3: the distance on every wire, which is R of the run, and the decoded bits.
+fn check_chain_by(bytes: &[u8], by: (Scheme, Mark), source: Source, values: &[u8], name: &str) {
     let Sizes { n, q, .. } = Circuit::read(bytes).expect("an accepted circuit").sizes();
     let mut carried = vec![0; n + q];
     assert_eq!(plain(bytes, values, &mut carried), Ok(()));
-    let chain = run(bytes, scheme, source, values);
+    let chain = run(bytes, by, source, values);
     let offset = Seed::new(&source.seed, source.run).offset();
     assert!(offset.colour().0 && offset != Block::ZERO);
     let (zeros, held) = (Block::list(&chain.zeros), Block::list(&chain.held));
@@ -120,13 +140,13 @@ fn check_chain(bytes: &[u8], scheme: Scheme, source: Source, values: &[u8], name
         let distance = zeros[index] ^ held[index];
         let expected = if value == 1 { offset } else { Block::ZERO };
         let wire = index + 1;
-        assert_eq!(distance, expected, "{name}, {scheme:?}, wire {wire}");
+        assert_eq!(distance, expected, "{name}, {by:?}, wire {wire}");
     }
     let due: Vec<u8> = outputs(bytes)
         .iter()
         .map(|wire| carried[wire - 1])
         .collect();
-    assert_eq!(chain.decoded, due, "{name}, {scheme:?}");
+    assert_eq!(chain.decoded, due, "{name}, {by:?}");
 }
 
 /// Any seed and any run.

@@ -1,6 +1,6 @@
 //! The archive, through the C interface, with stored cases of evaluate's list form: the number, the four
 //! words and the whole buffer are those that the case has. Nothing is computed here. The files are
-//! `data/evaluate-gates` and that name with `-generated`, `-one-operand` and `-rekeyed`.
+//! `data/evaluate-gates` and that name with `-generated`, `-one-operand`, `-rekeyed` and `-hashed`.
 
 #[path = "../src/archive.rs"]
 mod archive;
@@ -9,8 +9,8 @@ use second::interface;
 use second::lines;
 
 /// The files, each with its name and how many cases it has: of the third reading of 01, and of the
-/// second implementation, with 01's codes, with gates that use one operand, and of scheme 4.
-const FILES: [(&str, &str, usize); 4] = [
+/// second implementation, with 01's codes, with gates that use one operand, of scheme 4, and with hashes.
+const FILES: [(&str, &str, usize); 5] = [
     ("evaluate-gates", include_str!("../data/evaluate-gates"), 4),
     (
         "evaluate-gates-generated",
@@ -26,6 +26,11 @@ const FILES: [(&str, &str, usize); 4] = [
         "evaluate-gates-rekeyed",
         include_str!("../data/evaluate-gates-rekeyed"),
         122,
+    ),
+    (
+        "evaluate-gates-hashed",
+        include_str!("../data/evaluate-gates-hashed"),
+        194,
     ),
 ];
 

@@ -4,7 +4,7 @@
 
 use second::block::{Block, BLOCK};
 use second::circuit::{to_bytes, Gate, Sizes};
-use second::operations::{check, encode, evaluate, garble, plain};
+use second::operations::{check, encode, evaluate, garble, plain, Wanted};
 use second::refused::Refused;
 
 /// Two inputs and one gate of a code.
@@ -65,9 +65,12 @@ const CODES: [(u8, usize, bool); 4] = [(12, 0, false), (10, 1, false), (3, 0, tr
 /// What garbling a gate of two inputs leaves: the zero tokens of all three wires, and R.
 fn garbled(circuit: &[u8], scheme: u8, material: &mut [u8; 12]) -> ([Block; 3], Block) {
     let (mut zeros, mut ones) = ([0; 3 * BLOCK], [0; 2 * BLOCK]);
-    let answer = garble(
-        circuit, &[7; 16], 0, scheme, material, &mut zeros, &mut ones,
-    );
+    let wanted = Wanted {
+        run: 0,
+        scheme,
+        mark: 0x4748,
+    };
+    let answer = garble(circuit, &[7; 16], wanted, material, &mut zeros, &mut ones);
     let answer = answer.map(|garbled| (garbled.length, garbled.calls));
     assert_eq!(answer, Ok((12, 0)), "11+m bytes, and no call");
     let blocks = Block::list(&zeros);

@@ -97,8 +97,8 @@ fn each_condition_alone() {
             }
         }
     }
-    // 22 to 24 are given by nothing yet (02, job 5).
-    assert_eq!(met, (1..=21).chain([25, 26]).collect());
+    // 22 to 24, 27 and 28 are given by nothing yet (02, jobs 5 and 11), and no run is known that 30 is due to.
+    assert_eq!(met, (1..=21).chain([25, 26, 29]).collect());
 }
 
 #[test]

@@ -29,8 +29,8 @@ fn garble_leaves(
     garbled(g, answer) & x_left & y_left & z_left
 }
 
-// Circuit, seed, setting (scheme, fill, the lengths of three buffers: 1 byte, 1 and 4 each; the run number: none, or 8), the answer,
-// and the buffers.
+// Circuit, seed, setting (scheme, fill, the lengths of three buffers: 1 byte, 1 and 4 each; the run number: none, or 8;
+// after it the mark: none, or 2), the answer, and the buffers.
 pub fn garble_run(
     circuit: &[u8],
     seed: &[u8],

@@ -1,6 +1,6 @@
 // Whether a large garbling agrees. The case is 86 bytes: the circuit's rule (n, m, q and the period of 2 bytes each, the
 // generator's start of 4), the seed, the scheme, the answer (00, the length and the calls), and the fingerprints of the
-// material, the zero tokens and the one tokens. No such case is refused, and all are of run 0.
+// material, the zero tokens and the one tokens. No such case is refused, and all are of run 0 and of mark 47 48.
 ghost use Prim.Native.Nat.{_<_};
 use crate::fingerprint::fingerprint;
 use crate::rule::Rule;
@@ -72,6 +72,7 @@ fn garble_made(case: &[u8; 86], circuit: &[u8]) -> bool {
         Wanted {
             run: 0,
             scheme: case[28],
+            mark: 0x4748,
         },
         &mut material,
         &mut zeros,

@@ -26,6 +26,7 @@ fn run_right() {
     run_file(false, b"garble-runs");
     run_file(false, b"garble-rekeyed");
     run_file(false, b"garble-named");
+    run_file(false, b"garble-hashed");
     run_file(false, b"garble-no-room");
     run_file(true, b"garble-large");
     run_file(true, b"garble-large-rekeyed");

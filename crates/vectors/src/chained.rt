@@ -59,14 +59,16 @@ fn chain_leaves(
     chained(c, answer) & same_wires & same_bits
 }
 
-// Whether a setting has nothing after its first 26 bytes, or a run number, or a run number and the length of a seventh buffer.
+// Whether a setting has nothing after its first 26 bytes, or a run number, or a run number and the length of a seventh
+// buffer; the last two with a mark after them, or none.
 fn chain_fits(setting: &[u8]) -> bool
     requires { ⌜ 26 ≤ length (now setting) ⌝ }
 {
-    fits(setting, 26) | (setting.len() == 38)
+    fits(setting, 26) | (setting.len() == 38) | (setting.len() == 40)
 }
 
-// The length of the buffer of the outputs' tokens, at the end of a setting that has one; else there is room for all of them.
+// The length of the buffer of the outputs' tokens, after the run number of a setting that has one; else there is room
+// for all of them.
 fn outputs_room(setting: &[u8]) -> usize
     ensures { λ r. ⌜ r ≤ 65536 ⌝ }
 {
@@ -118,8 +120,9 @@ fn chain_made(
     )
 }
 
-// Circuit, seed, values, setting (scheme, fill, the lengths of six buffers: 1 byte, 1 and 4 each; the run number: none, or 8; after it
-// the length of the seventh, that of the outputs' tokens: none, or 4), the answer, and the buffers of the wires' tokens and of the bits.
+// Circuit, seed, values, setting (scheme, fill, the lengths of six buffers: 1 byte, 1 and 4 each; the run number: none,
+// or 8; after it the length of the seventh, that of the outputs' tokens: none, or 4; after either the mark: none, or 2),
+// the answer, and the buffers of the wires' tokens and of the bits.
 pub fn chain_run(
     circuit: &[u8],
     seed: &[u8],

@@ -10,6 +10,7 @@ use libc::STDOUT_FILENO;
 mod agree;
 mod chained;
 mod ciphers;
+mod clashes;
 mod schedules;
 mod single;
 mod text;
@@ -118,6 +119,16 @@ fn run_compared() {
     run_file(12, b"chain-comparator");
 }
 
+// Cases of the second implementation with material that ends in hashes (02, job 12); and of what refusal 30 does, on
+// bytes alone.
+fn run_hashed() {
+    run_file(10, b"evaluate-hashed");
+    run_file(11, b"decode-hashed");
+    run_file(12, b"chain-hashed");
+    run_file(27, b"clash");
+    run_file(28, b"zeroed");
+}
+
 // Cases of the second implementation whose buffers are the same whether a call is refused or not, so that the answer
 // alone tells; and buffers after calls.
 fn run_filled() {
@@ -144,6 +155,8 @@ fn run_wrong() {
     run_file(11, b"wrong-decode");
     run_file(12, b"wrong-chain");
     run_file(26, b"wrong-fill");
+    run_file(27, b"wrong-clash");
+    run_file(28, b"wrong-zeroed");
 }
 
 fn main() {
@@ -155,6 +168,7 @@ fn main() {
     run_rekeyed();
     run_named();
     run_compared();
+    run_hashed();
     run_filled();
     run_wrong();
 }

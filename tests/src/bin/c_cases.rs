@@ -53,7 +53,8 @@ fn write_case(file: &mut impl Write, call: &Call) -> io::Result<()> {
     let inputs = interface::inputs(call);
     file.write_all(&[call.operation as u8, call.scheme, call.bit, expected.number])?;
     let counts = [inputs.len() as u16, call.lens.len() as u16];
-    for number in [call.wire, call.n, call.m].into_iter().chain(counts) {
+    let numbers = [call.wire, call.n, call.m, call.mark];
+    for number in numbers.into_iter().chain(counts) {
         file.write_all(&number.to_ne_bytes())?;
     }
     for word in [call.run, call.width].into_iter().chain(expected.words) {

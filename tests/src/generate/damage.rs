@@ -1,5 +1,6 @@
-//! Calls damaged so that a chosen condition holds (01, Turned down, by number; 02, jobs 1 and 8).
+//! Calls damaged so that a chosen condition holds (01, Turned down, by number; 02, jobs 1, 8 and 12).
 
+use super::hashes::{any_mark, BAD_MARKS};
 use super::outputs::any_outputs;
 use super::{
     add_run, any_scheme, any_width, call, call_on, room, small_circuit, use_one_operand,
@@ -8,12 +9,13 @@ use super::{
 use crate::block::BLOCK;
 use crate::call::{Call, Operation};
 use crate::circuit::{Gate, Mark};
+use crate::material;
 use crate::random::Random;
 
 /// A call of the operation with every condition of `numbers` met at once. They are brought about from the
 /// last that is tried to the first, so that a later one does not undo the condition that must be given; of
 /// a number named twice, the second damage may undo the first. Sound circuits have the mark 43 48, sound
-/// gates 01's codes, and a sound scheme is one of 01's.
+/// gates 01's codes, a sound scheme is one of 01's, and sound material has the mark 47 48.
 pub fn damaged_call(random: &mut Random, operation: Operation, numbers: &[u8]) -> Call {
     let is_of_01 = numbers.iter().all(|&number| number <= 20);
     assert!(
@@ -23,26 +25,40 @@ pub fn damaged_call(random: &mut Random, operation: Operation, numbers: &[u8]) -
     damaged_from(random, operation, numbers, call)
 }
 
-/// The same with sound circuits of either mark and of all codes, by any scheme, and of garble in any run.
+/// The same with sound circuits of either mark and of all codes, by any scheme, with material of either mark,
+/// and of garble in any run.
 pub fn any_damaged_call(random: &mut Random, operation: Operation, numbers: &[u8]) -> Call {
-    damaged_call_on(random, operation, numbers, |random| {
+    let circuit = |random: &mut Random| {
         let bytes = small_circuit(random);
         any_outputs(random, operation, bytes)
-    })
+    };
+    damaged_call_with(random, operation, numbers, circuit, any_mark)
 }
 
-/// The same on circuits that `circuit` makes of 01's codes: half of the free ones become such that use one
-/// operand.
+/// The same with material of the mark 47 48, on circuits that `circuit` makes of 01's codes: half of the free
+/// ones become such that use one operand.
 pub fn damaged_call_on(
     random: &mut Random,
     operation: Operation,
     numbers: &[u8],
     circuit: impl Fn(&mut Random) -> Vec<u8>,
 ) -> Call {
+    damaged_call_with(random, operation, numbers, circuit, |_, _| ())
+}
+
+/// The same with the mark that `mark` gives a sound call.
+pub fn damaged_call_with(
+    random: &mut Random,
+    operation: Operation,
+    numbers: &[u8],
+    circuit: impl Fn(&mut Random) -> Vec<u8>,
+    mark: impl Fn(&mut Random, &mut Call),
+) -> Call {
     let mut damaged = damaged_from(random, operation, numbers, |random, operation| {
         let bytes = circuit(random);
         let mut call = call_on(random, operation, &bytes);
         any_scheme(random, &mut call);
+        mark(random, &mut call);
         call
     });
     use_one_operand(random, codes(&mut damaged));
@@ -75,13 +91,18 @@ fn damaged_from(
 
 /// A call damaged by what 01 refuses, for the conditions of `numbers`. Where its refusal was a code that
 /// is free now (02, job 2), 16 is added to that code; where it was scheme 4 (02, job 7), 5 takes its
-/// place; and where it was the mark 43 49 (02, job 8), 43 4A does: then it is refused as it was.
+/// place; where it was the mark 43 49 (02, job 8), 43 4A does; and where it was the material's mark 47 4A (02,
+/// job 12), 47 4B does: then it is refused as it was.
 pub fn refused_still(call: Call, numbers: &[u8]) -> Call {
     let call = match numbers.contains(&2) {
         true => mark_refused_still(call),
         false => call,
     };
     let call = code_refused_still(call);
+    let call = match numbers.contains(&13) {
+        true => material_mark_refused_still(call),
+        false => call,
+    };
     match numbers.contains(&14) {
         true => scheme_refused_still(call),
         false => call,
@@ -110,6 +131,23 @@ fn code_refused_still(call: Call) -> Call {
     }
     let refused = raised.read_circuit().err();
     match refused.is_some_and(|refused| refused.number == 7) {
+        true => raised,
+        false => call,
+    }
+}
+
+/// The same for the material's mark, or garble's. A call that is refused for what comes before it stays as it
+/// was drawn.
+fn material_mark_refused_still(call: Call) -> Call {
+    const REFUSED: u16 = 0x474B;
+    let mut raised = call.clone();
+    if call.operation == Operation::Garble {
+        raised.mark = material::Mark::from_number(call.mark).map_or(call.mark, |_| REFUSED);
+    } else if material::Mark::of(&call.material).is_some() {
+        raised.material[..2].copy_from_slice(&REFUSED.to_be_bytes());
+    }
+    let refused = raised.run().answer.err();
+    match refused.is_some_and(|refused| refused.number == 13) {
         true => raised,
         false => call,
     }
@@ -165,6 +203,7 @@ pub fn damage(random: &mut Random, call: &mut Call, number: u8) -> bool {
         10 => spoil_value(random, call),
         11 => spoil_token_list(random, call),
         12 => cut(random, &mut call.material, 9),
+        13 if call.operation == Operation::Garble => spoil_wanted_mark(random, call),
         13 => spoil(random, call.material.get_mut(..2)),
         14 => spoil_scheme(random, call),
         15 => spoil(random, call.material.get_mut(3..9)),
@@ -176,6 +215,7 @@ pub fn damage(random: &mut Random, call: &mut Call, number: u8) -> bool {
         21 => spoil_width(random, call),
         25 => spoil_output_mark(random, call),
         26 => spoil_output_wire(random, call),
+        29 => spoil_known_token(random, call),
         _ => false,
     }
 }
@@ -414,7 +454,8 @@ fn spoil_row_record(random: &mut Random, call: &mut Call) -> bool {
         return false;
     };
     let p = circuit.sizes().p;
-    let Some(rest) = call.material.len().checked_sub(11 + circuit.sizes().m) else {
+    let last = last_length(call, circuit.sizes().m);
+    let Some(rest) = call.material.len().checked_sub(9 + last) else {
         return false;
     };
     if p == 0 {
@@ -424,17 +465,47 @@ fn spoil_row_record(random: &mut Random, call: &mut Call) -> bool {
     spoil(random, call.material.get_mut(start..start + 4))
 }
 
-/// Changes the last record's mark, or sets one of its bytes over 1.
+/// The bytes of the last record, by the material's mark.
+fn last_length(call: &Call, m: usize) -> usize {
+    let mark = material::Mark::of(&call.material).unwrap_or(material::Mark::Colours);
+    mark.last_length(m)
+}
+
+/// A mark that garble refuses: one of the list, or one with a byte changed, for which `refused_still` does the
+/// rest.
+fn spoil_wanted_mark(random: &mut Random, call: &mut Call) -> bool {
+    if random.chance(50) {
+        call.mark = random.one_of(&BAD_MARKS);
+        return true;
+    }
+    let mut bytes = call.mark.to_be_bytes();
+    let spoilt = spoil(random, Some(&mut bytes));
+    call.mark = u16::from_be_bytes(bytes);
+    spoilt
+}
+
+/// Changes a byte of the token of one output, which the material knows by its hash.
+fn spoil_known_token(random: &mut Random, call: &mut Call) -> bool {
+    if material::Mark::of(&call.material) != Some(material::Mark::Hashes) {
+        return false;
+    }
+    let mut tokens = call.tokens.chunks_exact_mut(BLOCK);
+    let chosen = random.below(tokens.len());
+    spoil(random, tokens.nth(chosen))
+}
+
+/// Changes the last record's mark, or sets one of its bytes over 1, where these are colours.
 fn spoil_last_record(random: &mut Random, call: &mut Call) -> bool {
     let Ok(circuit) = call.read_circuit() else {
         return false;
     };
     let m = circuit.sizes().m;
-    let Some(start) = call.material.len().checked_sub(2 + m) else {
+    let Some(start) = call.material.len().checked_sub(last_length(call, m)) else {
         return false;
     };
+    let is_hashed = material::Mark::of(&call.material) == Some(material::Mark::Hashes);
     let last = &mut call.material[start..];
-    if random.chance(50) {
+    if random.chance(50) || is_hashed {
         return spoil(random, last.get_mut(..2));
     }
     last[2 + random.below(m)] = random.one_of(&[2, 3, 128, 255]);

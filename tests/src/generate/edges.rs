@@ -1,11 +1,13 @@
 //! The edges of the refusals: from sound calls on small circuits, every argument is moved across
 //! each of its limits, one step at a time. Which refusal is due is not known here.
 
+use super::hashes::{has_mark, hash_outputs, BAD_MARKS};
 use super::outputs::with_outputs;
 use super::{add_run, call_on, circuit, rekey, room, with_one_operand, BAD_WIDTHS};
 use crate::block::BLOCK;
 use crate::call::{Call, Operation};
 use crate::circuit::{Circuit, Gate, Mark};
+use crate::material;
 use crate::random::Random;
 
 /// A call, and what was done to it.
@@ -24,7 +26,7 @@ struct Edges {
 }
 
 /// All edges of an operation, each of garble in a run of its own: by each scheme, and with the outputs named
-/// by one.
+/// by one; and by this one with hashes too.
 pub fn edges(random: &mut Random, operation: Operation) -> Vec<Edge> {
     let mut found = Vec::new();
     for (n, q, charged, by_name) in [(2, 1, 100, 4), (3, 2, 0, 2), (5, 9, 60, 1)] {
@@ -34,12 +36,16 @@ pub fn edges(random: &mut Random, operation: Operation) -> Vec<Edge> {
             let base = with_scheme(random, operation, &bytes, scheme);
             found.extend(around(base));
         }
+        let hashed = with_hashes(random, operation, &bytes, by_name);
+        found.extend(hashed.into_iter().flat_map(around));
         if operation.takes_bytes() {
             let circuit = Circuit::read(&bytes).expect("an accepted circuit");
             // The last wire, an input, and the last wire again.
             let bytes = with_outputs(&circuit, &[n + q, 2, n + q]);
             let base = with_scheme(random, operation, &bytes, by_name);
             found.extend(around(base));
+            let hashed = with_hashes(random, operation, &bytes, by_name);
+            found.extend(hashed.into_iter().flat_map(around));
         }
     }
     for edge in &mut found {
@@ -67,6 +73,21 @@ fn with_scheme(random: &mut Random, operation: Operation, bytes: &[u8], scheme: 
     }
 }
 
+/// The same with material that ends in hashes, where the operation has a mark.
+fn with_hashes(
+    random: &mut Random,
+    operation: Operation,
+    bytes: &[u8],
+    scheme: u8,
+) -> Option<Call> {
+    if !has_mark(operation) {
+        return None;
+    }
+    let mut call = with_scheme(random, operation, bytes, scheme);
+    hash_outputs(random, &mut call);
+    Some(call)
+}
+
 /// The sound call and all edges of its operation's arguments.
 fn around(base: Call) -> Vec<Edge> {
     let operation = base.operation;
@@ -84,7 +105,10 @@ fn around(base: Call) -> Vec<Edge> {
     match operation {
         Operation::Check | Operation::Pick | Operation::Comparator => {}
         Operation::Plain => edges.of_values(),
-        Operation::Garble => edges.of_seed_and_scheme(),
+        Operation::Garble => {
+            edges.of_seed_and_scheme();
+            edges.of_mark();
+        }
         Operation::Encode => {
             edges.of_values();
             edges.of_length("zeros", |call| &mut call.zero);
@@ -94,6 +118,10 @@ fn around(base: Call) -> Vec<Edge> {
         Operation::Evaluate | Operation::EvaluateGates | Operation::Decode => {
             edges.of_length("tokens", |call| &mut call.tokens);
             edges.of_material();
+            edges.of_file_marks();
+            if operation == Operation::Decode {
+                edges.of_bytes("tokens", |call| &mut call.tokens);
+            }
         }
     }
     edges.of_room();
@@ -230,6 +258,39 @@ impl Edges {
                 call.scheme = scheme;
                 call.lens = room(call).unwrap_or(vec![2000; 3]);
             });
+        }
+    }
+
+    /// Garble's mark: each second byte, the list of those refused, and each bit of both marks flipped; all of
+    /// these with an unknown scheme too.
+    fn of_mark(&mut self) {
+        let flipped = (0..16).flat_map(|bit| [0x4748 ^ 1 << bit, 0x474A ^ 1 << bit]);
+        let marks = (0x4700..0x4800).chain(BAD_MARKS).chain(flipped);
+        for mark in marks {
+            self.add(format!("mark {mark:04x}"), |call| {
+                call.mark = mark;
+                call.lens = room(call).unwrap_or(vec![2000; 3]);
+            });
+            self.add(format!("mark {mark:04x}, scheme 9"), |call| {
+                (call.mark, call.scheme) = (mark, 9)
+            });
+        }
+    }
+
+    /// The material with each mark of the header, each of the last record, and the length due to each.
+    fn of_file_marks(&mut self) {
+        let material = &self.base.material;
+        let own = material::Mark::of(material).expect("a sound call");
+        let m = self.base.read_circuit().expect("a sound call").sizes().m;
+        let last = material.len() - own.last_length(m);
+        for length in material::Mark::ALL.map(|mark| mark.last_length(m)) {
+            for (header, mark) in [(0x48, 0x44), (0x48, 0x41), (0x4A, 0x44), (0x4A, 0x41)] {
+                let name = format!("47 {header:02x}, 47 {mark:02x}, last record of {length} bytes");
+                self.add(name, |call| {
+                    call.material.resize(last + length, 1);
+                    (call.material[1], call.material[last + 1]) = (header, mark);
+                });
+            }
         }
     }
 

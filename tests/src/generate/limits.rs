@@ -2,11 +2,13 @@
 //! Faults are at the far end, where a place needs the most bits.
 
 use super::edges::Edge;
+use super::hashes::any_mark;
 use super::outputs::with_outputs;
 use super::{add_run, any_scheme, call_on, circuit, room, with_one_operand};
 use crate::block::BLOCK;
 use crate::call::{Call, Operation};
 use crate::circuit::{Circuit, Mark};
+use crate::material;
 use crate::random::Random;
 use crate::scheme::Scheme;
 
@@ -75,6 +77,7 @@ pub fn calls(random: &mut Random, operation: Operation, shape: usize) -> Option<
     };
     let mut base = call_on(random, operation, &bytes);
     any_scheme(random, &mut base);
+    any_mark(random, &mut base);
     base.lens = room(&base).expect("a sound call");
     let [n, m, q] = [2, 4, 6].map(|at| u16::from_be_bytes([bytes[at], bytes[at + 1]]));
     let mut calls = Calls {
@@ -205,7 +208,8 @@ impl Calls {
         if sizes.p > 0 {
             let scheme = Scheme::from_byte(self.base.material[2]);
             let rows = scheme.expect("a sound call").rows();
-            let record = last + 1 - 2 - sizes.m - (4 + BLOCK * rows);
+            let mark = material::Mark::of(&self.base.material).expect("a sound call");
+            let record = last + 1 - mark.last_length(sizes.m) - (4 + BLOCK * rows);
             self.add("last row record", |call| call.material[record + 3] ^= 1);
         }
     }

@@ -2,6 +2,7 @@
 //! tampered with, or noise. What must come of them is not known here.
 
 use super::damage::any_damaged_call;
+use super::hashes::{any_mark, BAD_MARKS};
 use super::outputs::any_outputs;
 use super::{
     add_run, any_call, any_scheme, any_width, call_on, circuit, program_input, room,
@@ -52,6 +53,7 @@ fn sized(random: &mut Random, operation: Operation, n: u16, q: u16) -> Call {
     let bytes = any_outputs(random, operation, bytes);
     let mut call = call_on(random, operation, &bytes);
     any_scheme(random, &mut call);
+    any_mark(random, &mut call);
     add_run(random, &mut call);
     call
 }
@@ -136,8 +138,9 @@ fn tamper_number(random: &mut Random, call: &mut Call) {
         call.width = any_width(random);
         return;
     }
-    match random.below(5) {
+    match random.below(6) {
         0 => call.scheme = random.byte(),
+        5 => call.mark = random.one_of(&BAD_MARKS) ^ random.below(4) as u16,
         1 => call.bit = random.below(3) as u8,
         2 => call.wire = random.below(12) as u16,
         3 => call.n = call.n.wrapping_add(random.below(3) as u16).wrapping_sub(1),

@@ -49,6 +49,8 @@ pub fn all() -> Vec<Form> {
         decode(),
         chain(),
         fill(),
+        clash(),
+        zeroed(),
         garble(),
         garble_large(),
     ]
@@ -300,6 +302,27 @@ fn fill() -> Form {
         writers: &[],
         cases: [either, bytes, lengths.to_vec()].concat(),
     }
+}
+
+/// Bytes, where the hashes stand in them and how many outputs there are, and the answer.
+fn clash() -> Form {
+    let either = either(Right::Done, Right::Refused);
+    Form {
+        file: "wrong-clash",
+        right: &["clash"],
+        answer: Some(2),
+        setting: None,
+        buffers: &[],
+        writers: &[],
+        cases: [refusal(), either].concat(),
+    }
+}
+
+/// A buffer before, how many of its bytes become zero, and the buffer after: the first zero, the last, and the
+/// byte after that. The line at index 10 has 17 bytes, of which 16 become zero.
+fn zeroed() -> Form {
+    let at = [At::First, At::Index(15), At::Last];
+    of_bytes("wrong-zeroed", &["zeroed"], bytes(10, 2, at))
 }
 
 /// Circuit, seed, setting, answer, and the three buffers. What garble writes is never the fill alone: as a

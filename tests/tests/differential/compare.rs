@@ -50,14 +50,15 @@ pub fn arguments(call: &Call) -> String {
         m,
         run,
         scheme,
+        mark,
         wire,
         bit,
         width,
         ..
     } = call;
     lines.push(format!(
-        "  n {n}, m {m}, run {run:016x}, scheme {scheme}, wire {wire}, bit {bit}, width {width} \
-         (where it has one)"
+        "  n {n}, m {m}, run {run:016x}, scheme {scheme}, mark {mark:04x}, wire {wire}, bit {bit}, \
+         width {width} (where it has one)"
     ));
     lines.push(format!(
         "  output buffers of {:?} bytes, fill {}",

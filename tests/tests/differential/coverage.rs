@@ -1,11 +1,12 @@
 //! How often each refusal of each operation was met, which codes of gates, which runs, which schemes, which
-//! outputs, and which widths.
+//! outputs, which widths, and which marks of material.
 
 use std::collections::{BTreeMap, BTreeSet};
 
 use second::call::{Call, Operation};
 use second::interface::{self, Answer};
 
+use crate::marks::Marks;
 use crate::outputs;
 
 /// What was met.
@@ -35,6 +36,8 @@ pub struct Coverage {
     widths: BTreeSet<u64>,
     /// The widths at refusal 21.
     refused_widths: BTreeSet<u64>,
+    /// The marks of material.
+    marks: Marks,
 }
 
 /// The operations that have a scheme.
@@ -96,6 +99,7 @@ impl Coverage {
         self.count_scheme(call, answer);
         self.count_outputs(call, answer);
         self.count_width(call, answer);
+        self.marks.count(call, answer);
         if answer.number == 7 {
             let (codes, first) = codes(call);
             let index = answer.words[0] - first;
@@ -280,8 +284,14 @@ impl Coverage {
         missing
     }
 
-    /// No operation gave a number that it has no argument for, and so none gave 22 to 24, which are kept for a
-    /// reader of texts (02, job 5): gives what was.
+    /// Both marks of material were met as is due: gives what was not.
+    pub fn report_marks(&self) -> Vec<String> {
+        self.marks.report()
+    }
+
+    /// No operation gave a number that it has no argument for: none gave 22 to 24, which are kept for a reader of
+    /// texts (02, job 5), 27 and 28, which are kept for a board (job 11), and 30, which no run is known to meet
+    /// (job 12). Gives what was.
     pub fn report_others(&self) -> Vec<String> {
         let mut others = Vec::new();
         for (operation, number) in self.numbers.keys() {

@@ -72,7 +72,7 @@ pub fn kinds(circuit: &[u8]) -> Vec<&'static str> {
         .collect()
 }
 
-/// Which output a place names, of a circuit that was refused by 25 or 26.
+/// Which output a place names, of a circuit with which a call was refused by 25, 26 or 29.
 pub fn place(circuit: &[u8], output: u64) -> &'static str {
     let [_, m, _] = header(circuit);
     match output {

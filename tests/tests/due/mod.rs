@@ -1,7 +1,9 @@
 //! What is due to a call, worked out once more, from its arguments, 01 and 02 alone. Library `second`
-//! gives only the call, the refusals that its operation has, and the bytes made from a list.
+//! gives only the call, the refusals that its operation has, the bytes made from a list, and AES.
 
+use second::block::Block;
 use second::call::{Call, Operation};
+use second::cipher::{Cipher, FIXED_KEY};
 use second::circuit::to_bytes;
 use second::refused::Refused;
 
@@ -45,6 +47,16 @@ fn number_at(bytes: &[u8], at: usize) -> usize {
 /// The bytes of a row record, 4+16r: r is 4, 3, 2, 2 in schemes 1, 2, 3, 4.
 fn record_length(scheme: u8) -> usize {
     4 + 16 * [4, 3, 2, 2][usize::from(scheme) - 1]
+}
+
+/// π(2x ⊕ t) ⊕ 2x ⊕ t for the token x of output k and t = 2(65,536+k).
+fn output_hash(token: &[u8], k: usize) -> Vec<u8> {
+    let number = |bytes: &[u8]| bytes.iter().fold(0, |n: u128, &b| n << 8 | u128::from(b));
+    let (x, t) = (number(token), 2 * (65_536 + k as u128));
+    let twice = x << 1 ^ if x >> 127 == 1 { 0x87 } else { 0 };
+    let block = twice ^ t;
+    let made = Cipher::default().encrypt(FIXED_KEY, Block(block.to_be_bytes()));
+    (number(&made.0) ^ block).to_be_bytes().to_vec()
 }
 
 impl Given<'_> {
@@ -91,9 +103,31 @@ impl Given<'_> {
         }
     }
 
-    /// The material's length, 11+m+p(4+16r).
+    /// Whether material ends in hashes: by garble's mark, or by the material's own.
+    fn is_hashed(&self) -> bool {
+        match self.call.operation {
+            Operation::Garble => self.call.mark == 0x474A,
+            _ => self.call.material.starts_with(&[0x47, 0x4A]),
+        }
+    }
+
+    /// 13: garble's mark, or the material's own, is neither of the two.
+    fn wrong_mark(&self) -> bool {
+        let is_coloured = match self.call.operation {
+            Operation::Garble => self.call.mark == 0x4748,
+            _ => self.call.material.starts_with(&[0x47, 0x48]),
+        };
+        !is_coloured && !self.is_hashed()
+    }
+
+    /// The bytes after the last record's mark: m, or 32m with hashes.
+    fn last_bytes(&self) -> usize {
+        self.m * if self.is_hashed() { 32 } else { 1 }
+    }
+
+    /// The material's length, 9+p(4+16r)+2+m, or with hashes 32m for m.
     fn material_length(&self) -> usize {
-        11 + self.m + self.charged().len() * record_length(self.scheme())
+        9 + self.charged().len() * record_length(self.scheme()) + 2 + self.last_bytes()
     }
 
     fn room(&self) -> Vec<usize> {
@@ -115,7 +149,10 @@ impl Given<'_> {
         let p = self.charged().len();
         match self.call.operation {
             Operation::Check => vec![self.n, self.m, self.q, p],
-            Operation::Garble => vec![self.material_length(), 4 * p],
+            Operation::Garble => {
+                let hashes = if self.is_hashed() { 2 * self.m } else { 0 };
+                vec![self.material_length(), 4 * p + hashes]
+            }
             Operation::Evaluate | Operation::EvaluateGates => match self.scheme() {
                 1 | 2 => vec![p],
                 _ => vec![2 * p],
@@ -134,9 +171,9 @@ impl Given<'_> {
             (2, _) => (circuit[..2] != [0x43, 0x48] && !self.is_named(), 0),
             (3, _) => (self.breaks_limit(), 2),
             (4, _) => (circuit.len() != self.circuit_length(), circuit.len()),
-            (5..=7, _) => {
-                let (found, wire) = self.faulty_gate()?;
-                (found == number, wire)
+            (5..=7 | 25 | 26, _) => {
+                let (found, place) = self.faulty(number)?;
+                (found == number, place)
             }
             (8, _) => (call.seed.len() != 16, call.seed.len()),
             (9, _) => (call.values.len() != n, call.values.len()),
@@ -148,7 +185,7 @@ impl Given<'_> {
             }
             (11, _) => return self.wrong_list(),
             (12, _) => (material.len() < 9, material.len()),
-            (13, _) => (material[..2] != [0x47, 0x48], 0),
+            (13, _) => (self.wrong_mark(), 0),
             (14, _) => (!(1..=4).contains(&self.scheme()), self.scheme().into()),
             (15, _) => (material[3..9] != circuit[2..8], 3),
             (16, _) => (material.len() != self.material_length(), material.len()),
@@ -157,10 +194,7 @@ impl Given<'_> {
             (19, _) => return self.short_buffer(),
             (20, _) => return self.wrong_wire(),
             (21, _) => (!(1..=64).contains(&call.width), call.width as usize),
-            (25 | 26, _) => {
-                let (found, output) = self.faulty_output()?;
-                (found == number, output)
-            }
+            (29, _) => return self.unknown_token(),
             _ => panic!("there is no refusal {number}"),
         };
         holds.then_some(place)
@@ -180,12 +214,38 @@ impl Given<'_> {
         8 + 7 * self.q + outputs
     }
 
-    /// 18: where the last record starts, if its mark is wrong or a byte of it exceeds 1.
+    /// 18: where the last record starts, if its mark is wrong or a colour's byte exceeds 1.
     fn faulty_last_record(&self) -> Option<usize> {
         let material = &self.call.material;
-        let (before, last) = material.split_at(material.len() - 2 - self.m);
-        let over = last[2..].iter().any(|&byte| byte > 1);
-        (last[..2] != [0x47, 0x44] || over).then_some(before.len())
+        let (before, last) = material.split_at(material.len() - 2 - self.last_bytes());
+        let wrong = match self.is_hashed() {
+            true => last[..2] != [0x47, 0x41],
+            false => last[..2] != [0x47, 0x44] || last[2..].iter().any(|&byte| byte > 1),
+        };
+        wrong.then_some(before.len())
+    }
+
+    /// 29: the first output whose token's hash is none of its two, where there are hashes.
+    fn unknown_token(&self) -> Option<usize> {
+        if !self.is_hashed() {
+            return None;
+        }
+        let material = &self.call.material;
+        let hashes = material[material.len() - 32 * self.m..].chunks(32);
+        let mut outputs = self.call.tokens.chunks(16).zip(hashes).zip(1..);
+        let found = outputs.find(|((token, pair), k)| {
+            let hash = output_hash(token, *k);
+            pair[..16] != hash && pair[16..] != hash
+        });
+        found.map(|(_, k)| k)
+    }
+
+    /// What the search finds that looks for a number: that of the gates, or of the outputs.
+    fn faulty(&self, number: u8) -> Option<(u8, usize)> {
+        match number {
+            25 | 26 => self.faulty_output(),
+            _ => self.faulty_gate(),
+        }
     }
 
     /// 25 and 26, one search: the first output record with a fault, and its lower number.
