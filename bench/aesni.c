@@ -196,3 +196,4 @@ static inline void keyed_4(uint64_t first, block x[4])
 #include "one.h"
 #include "work.h"
 #include "evaluate.h"
+#include "decode.h"

@@ -4,11 +4,12 @@
 
 #include "subject.h"
 
-/* Garbles and evaluates by every worker and compares all that is written; ends the program where they differ. */
+/* Garbles, evaluates and decodes by every worker, with either mark of the material, and compares all that is written;
+ * ends the program where they differ. */
 void agree_on(struct subject *s);
 
 /* The same on so many calls with one bit of an argument changed, where most are refused, with every bit of the circuit's
- * header, its mark among them, and with every scheme byte. */
+ * header, its mark among them, with every scheme byte, and with marks of the material that are none. */
 void agree_on_damage(unsigned calls);
 
 /* Both with each of four run numbers other than 0. */

@@ -56,6 +56,15 @@ unsigned check_circuit(const uint8_t *circuit, size_t length, struct sizes *z, u
     return number == 0 && named ? check_outputs(circuit, z, place) : number;
 }
 
+/* Whether a last record is wrong: its mark, or a colour over 1. Hashes are any bytes. */
+static unsigned last_wrong(const uint8_t *record, size_t m, unsigned hashed)
+{
+    unsigned wrong = record[0] != 0x47 || record[1] != (hashed ? 0x41 : 0x44);
+    for (size_t i = 0; i < m && !hashed; i++)
+        wrong |= record[2 + i] > 1;
+    return wrong;
+}
+
 /* Refusals 17 and 18: the row record of each charged gate, and the last record. */
 static unsigned check_records(const uint8_t *circuit, const struct sizes *z, const uint8_t *material, uint64_t *place)
 {
@@ -68,10 +77,7 @@ static unsigned check_records(const uint8_t *circuit, const struct sizes *z, con
             return refuse(place, own, 17);
         record += step;
     }
-    unsigned wrong = record[0] != 0x47 || record[1] != 0x44;
-    for (size_t i = 0; i < z->m; i++)
-        wrong |= record[2 + i] > 1;
-    return wrong ? refuse(place, (uint64_t)(record - material), 18) : 0;
+    return last_wrong(record, z->m, is_hashed(material)) ? refuse(place, (uint64_t)(record - material), 18) : 0;
 }
 
 unsigned check_material(const uint8_t *circuit, const struct sizes *z, const uint8_t *material, size_t length,
@@ -79,13 +85,13 @@ unsigned check_material(const uint8_t *circuit, const struct sizes *z, const uin
 {
     if (length < 9)
         return refuse(place, length, 12);
-    if (material[0] != 0x47 || material[1] != 0x48)
+    if (material[0] != 0x47 || (material[1] != 0x48 && !is_hashed(material)))
         return refuse(place, 0, 13);
     if (material[2] < 1 || material[2] > 4)
         return refuse(place, material[2], 14);
     if (number16(material + 3) != z->n || number16(material + 5) != z->m || number16(material + 7) != z->q)
         return refuse(place, 3, 15);
-    if (length != material_length(z, material[2]))
+    if (length != material_length(z, material[2], is_hashed(material)))
         return refuse(place, length, 16);
     return check_records(circuit, z, material, place);
 }

@@ -62,10 +62,22 @@ static inline size_t rows_of(unsigned scheme)
     return scheme < 3 ? 5 - scheme : 2;
 }
 
-/* The material's length, 11+m+p(4+16r). */
-static inline size_t material_length(const struct sizes *z, unsigned scheme)
+/* Whether material ends in hashes, by the mark 47 4A. With 47 48 it ends in colours. */
+static inline unsigned is_hashed(const uint8_t *material)
 {
-    return 11 + z->m + z->p * (4 + 16 * rows_of(scheme));
+    return material[1] == 0x4A;
+}
+
+/* What the last record has for each output: a colour, or two hashes. */
+static inline size_t output_bytes(unsigned hashed)
+{
+    return hashed ? 32 : 1;
+}
+
+/* The material's length, 11+m+p(4+16r), with hashes 11+32m+p(4+16r). */
+static inline size_t material_length(const struct sizes *z, unsigned scheme, unsigned hashed)
+{
+    return 11 + z->m * output_bytes(hashed) + z->p * (4 + 16 * rows_of(scheme));
 }
 
 /* Refusals 1 to 7, 25 and 26: the number, or 0 and the sizes. */

@@ -134,3 +134,4 @@ PLANE void keyed_4(uint64_t first, block x[4])
 #include "gates.h"
 #include "four.h"
 #include "work.h"
+#include "decode.h"

@@ -6,6 +6,7 @@
 #include <string.h>
 
 #include "agree.h"
+#include "marked.h"
 #include "repeated.h"
 #include "rounds.h"
 #include "subject.h"
@@ -95,8 +96,10 @@ static void measure_all(unsigned rounds, unsigned first)
         for (int size = 0; size < SIZES; size++)
             measure(&subjects[size], times[size], round, (first + round) % worker_count);
     print_all(rounds);
-    for (uint8_t scheme = 1; scheme <= 4; scheme++)
+    for (uint8_t scheme = 1; scheme <= 4; scheme++) {
         measure_repeated(&subjects[1], scheme, rounds, first);
+        measure_marked(&subjects[1], scheme, rounds, first);
+    }
     for (int size = 0; size < SIZES; size++)
         free_subject(&subjects[size]);
 }

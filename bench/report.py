@@ -18,13 +18,14 @@ and from hour to hour; ratios less, instructions hardly.
 
 The baselines are the same work in C (`bench/*.c`): the same files in and out, the same refusals tried first. Tables: four tables of
 256 words, the fixed key's schedule made once, two blocks side by side. Fixsliced: AES in bit planes, with no look-up and no branch by a
-secret, four blocks in eight words of 64 bits; it only garbles, four calls at a time. AES-NI: the processor's instructions, up to four
+secret, four blocks in eight words of 64 bits, four calls at a time; it does not evaluate. AES-NI: the processor's instructions, up to four
 blocks side by side. All take a bit times a block by a mask and use that doubling and σ are linear. Under scheme 4 all expand two keys for a
 charged gate: tables and AES-NI, garbling and evaluating, round by round beside the blocks that these encipher; fixsliced before them, by
 look-ups, since these keys are public, and puts them in planes. Compiled by gcc with `-O3 -march=native`, fixsliced without AVX-512; the library
-is built for plain x86-64. In the same runs all that they write was compared with the library's, byte for byte, on each
-circuit measured, on one with gates that use one operand too, on one garbled with four run numbers other than 0, on one whose outputs are
-named, on 2,100 calls with a bit of an argument changed, and with every scheme byte. What is measured has run number 0 and the mark 43 48.
+is built for plain x86-64. In the same runs all that they write was compared with the library's, byte for byte, decoding too and with both
+marks of the material, on each circuit measured, on one with gates that use one operand too, on one garbled with four run numbers other
+than 0, on one whose outputs are named, on 2,100 calls with a bit of an argument changed, with every scheme byte and with marks that are
+none. What is measured has run number 0, the circuit's mark 43 48 and, where nothing else is said, the material's mark 47 48.
 """
 
 CHAINED = """Chained rounds: the library once more, made by `bench/chained`, with AES by SubBytes, ShiftRows, MixColumns and AddRoundKey one
@@ -32,6 +33,11 @@ after the other in place of look-ups in the four tables, which evaluate has. The
 contracts are the same; they name the S-box for each block or two, which is about a hundredth of their instructions. Scheme 4's keys are expanded by the
 tables in both, and garble is by planes in both. This form is proved like the library and
 has its turn like a baseline, and what it writes was compared in the same way.
+"""
+
+MARKED = """q = 4,000, with 128 outputs; the library, garbling and decoding with either mark of the material in turn. With 47 4A garble
+makes two hashes for each output and looks for two that are equal, and decode hashes each output's token. Decode's time has all that it
+checks first of circuit and material in it.
 """
 
 FILES = """The program, q = {q:,}: milliseconds by the clock, the best of {rounds} in one run of `rust/benches/over_files.rs`. The library's call has
@@ -119,6 +125,15 @@ def repeated_table(results):
     return table(["ns for a charged gate", "by its bytes", "by its gates already read", "gates : bytes"], rows)
 
 
+def marked_table(results):
+    rows = []
+    for operation, scheme in [(operation, scheme) for operation in ("garble", "decode") for scheme in SCHEMES]:
+        key = (f"{operation}-marked", scheme, 4000)
+        bests = [f"{results.best(key, mark):.1f}" for mark in ("colours", "hashes")]
+        rows.append([named(operation, scheme)] + bests + [compared(results, key, "hashes", "colours")])
+    return table(["ns for a charged gate; decode: for an output", "47 48", "47 4A", "47 4A : 47 48"], rows)
+
+
 def both_row(results, scheme, q):
     """Garble and evaluate together: the sums of the bests."""
     keys = [(f"{operation} over files", scheme, q) for operation in ("garble", "evaluate")]
@@ -163,6 +178,8 @@ def report(results):
     if ("repeated", 3, 4000) in results.times:
         parts += ["## One circuit, run a hundred times", "q = 4,000; the library, the same tokens and material each time.\n"]
         parts += [repeated_table(results)]
+    if ("garble-marked", 3, 4000) in results.times:
+        parts += ["## With hashes of the outputs' tokens", MARKED, marked_table(results)]
     if ("garble over files", 3, largest) in results.times:
         parts += over_files(results, largest)
     return "\n\n".join(wrapped(part) for part in parts) + "\n"

@@ -8,9 +8,9 @@
 #include "weighhare.h"
 
 struct worker workers[MOST_WORKERS] = {
-    {"library", weighhare_check, weighhare_garble, weighhare_evaluate},
-    {"tables", tables_check, tables_garble, tables_evaluate},
-    {"fixsliced", fixsliced_check, fixsliced_garble, NULL},
+    {"library", weighhare_check, weighhare_garble, weighhare_evaluate, weighhare_decode},
+    {"tables", tables_check, tables_garble, tables_evaluate, tables_decode},
+    {"fixsliced", fixsliced_check, fixsliced_garble, NULL, fixsliced_decode},
 };
 
 unsigned worker_count = 3;
@@ -18,9 +18,10 @@ unsigned worker_count = 3;
 void find_workers(void)
 {
     if (__builtin_cpu_supports("aes") && __builtin_cpu_supports("ssse3"))
-        workers[worker_count++] = (struct worker){"aesni", aesni_check, aesni_garble, aesni_evaluate};
+        workers[worker_count++] = (struct worker){"aesni", aesni_check, aesni_garble, aesni_evaluate, aesni_decode};
     if (chained_check != NULL)
-        workers[worker_count++] = (struct worker){"chained", chained_check, chained_garble, chained_evaluate};
+        workers[worker_count++] =
+            (struct worker){"chained", chained_check, chained_garble, chained_evaluate, chained_decode};
 }
 
 static uint64_t state = 88172645463325252u;
@@ -59,15 +60,17 @@ static uint8_t *room(size_t length)
 
 struct subject make_subject(size_t q)
 {
-    struct subject s = {.q = q, .p = q / 2, .wires = INPUTS + q};
+    struct subject s = {.q = q, .p = q / 2, .wires = INPUTS + q, .mark = WEIGHHARE_COLOURS};
     s.circuit_length = 8 + 7 * q;
-    s.material_room = 11 + OUTPUTS + s.p * (4 + 64);
+    s.material_room = 11 + 32 * OUTPUTS + s.p * (4 + 64);
     s.circuit = room(s.circuit_length);
     s.material = room(s.material_room);
     s.zeros = room(16 * s.wires);
     s.held = room(16 * s.wires);
     s.ones = room(16 * INPUTS);
     s.tokens = room(16 * INPUTS);
+    s.outputs = room(16 * OUTPUTS);
+    s.bits = room(OUTPUTS);
     s.circuit[0] = 0x43, s.circuit[1] = 0x48;
     put16(s.circuit + 2, INPUTS);
     put16(s.circuit + 4, OUTPUTS);
@@ -113,6 +116,8 @@ void free_subject(struct subject *s)
     free(s->held);
     free(s->ones);
     free(s->tokens);
+    free(s->outputs);
+    free(s->bits);
 }
 
 static void must(const struct worker *w, const char *operation, uint8_t number)
@@ -132,8 +137,8 @@ void run_check(const struct worker *w, struct subject *s)
 void run_garble(const struct worker *w, struct subject *s, uint8_t scheme)
 {
     uint64_t answer[4];
-    must(w, "garble", w->garble(s->circuit, s->circuit_length, s->seed, 16, s->run, scheme, s->material, s->material_room,
-                                s->zeros, 16 * s->wires, s->ones, 16 * INPUTS, answer));
+    must(w, "garble", w->garble(s->circuit, s->circuit_length, s->seed, 16, s->run, scheme, s->mark, s->material,
+                                s->material_room, s->zeros, 16 * s->wires, s->ones, 16 * INPUTS, answer));
     s->material_length = answer[0];
     for (size_t i = 0; i < INPUTS; i++)
         memcpy(s->tokens + 16 * i, (i % 2 ? s->ones : s->zeros) + 16 * i, 16);
@@ -144,4 +149,19 @@ void run_evaluate(const struct worker *w, struct subject *s)
     uint64_t answer[4];
     must(w, "evaluate", w->evaluate(s->circuit, s->circuit_length, s->tokens, 16 * INPUTS, s->material, s->material_length,
                                     s->held, 16 * s->wires, answer));
+}
+
+void run_decode(const struct worker *w, struct subject *s)
+{
+    uint64_t answer[4];
+    must(w, "decode", w->decode(s->circuit, s->circuit_length, s->outputs, 16 * OUTPUTS, s->material,
+                                s->material_length, s->bits, OUTPUTS, answer));
+}
+
+void find_outputs(struct subject *s)
+{
+    uint64_t answer[4];
+    run_evaluate(&workers[0], s);
+    must(&workers[0], "output_tokens", weighhare_output_tokens(s->circuit, s->circuit_length, s->held, 16 * s->wires,
+                                                               s->outputs, 16 * OUTPUTS, answer));
 }

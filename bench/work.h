@@ -4,6 +4,7 @@
 
 #include "baseline.h"
 #include "files.h"
+#include "last.h"
 
 static uint8_t answered(uint64_t answer[4], unsigned number, uint64_t first, uint64_t second)
 {
@@ -70,16 +71,16 @@ INLINE uint8_t *garble_gates(unsigned scheme, const uint8_t *circuit, const stru
     return at;
 }
 
-/* The inputs, the header, the gates and the last record. */
-static void garble_all(unsigned scheme, const uint8_t *circuit, const struct sizes *z, const uint8_t *key, uint64_t run,
-                       uint8_t *material, uint8_t *zeros, uint8_t *ones)
+/* The inputs, the header with its mark, the gates and the last record. The output whose hashes are equal, or 0. */
+static size_t garble_all(unsigned scheme, uint16_t mark, const uint8_t *circuit, const struct sizes *z,
+                         const uint8_t *key, uint64_t run, uint8_t *material, uint8_t *zeros, uint8_t *ones)
 {
     struct seed seed = seed_of(key, run);
     struct offset o = offset_of(block_coloured(seed_offset(&seed)));
     seed_inputs(&seed, z->n, o.r, zeros, ones);
     if (scheme == 1)
         seed_charged(&seed, circuit, z, zeros);
-    material[0] = 0x47, material[1] = 0x48, material[2] = (uint8_t)scheme;
+    material[0] = (uint8_t)(mark >> 8), material[1] = (uint8_t)mark, material[2] = (uint8_t)scheme;
     memcpy(material + 3, circuit + 2, 6);
     uint8_t *at = material + 9;
     if (scheme == 1)
@@ -90,14 +91,17 @@ static void garble_all(unsigned scheme, const uint8_t *circuit, const struct siz
         at = garble_gates(3, circuit, z, &seed, &o, at, zeros);
     else
         at = garble_gates(4, circuit, z, &seed, &o, at, zeros);
-    at[0] = 0x47, at[1] = 0x44;
-    for (size_t i = 0; i < z->m; i++)
-        at[2 + i] = zeros[16 * (output_wire(circuit, z, i) - 1) + 15] & 1;
+    if (!is_hashed(material)) {
+        write_colours(circuit, z, zeros, at);
+        return 0;
+    }
+    write_hashes(circuit, z, &o, zeros, at);
+    return find_clash(z, at + 2);
 }
 
 uint8_t NAME(garble)(const uint8_t *circuit, size_t length, const uint8_t *seed, size_t seed_length, uint64_t run,
-                     uint8_t scheme, uint8_t *material, size_t material_room, uint8_t *zeros, size_t zeros_room,
-                     uint8_t *ones, size_t ones_room, uint64_t answer[4])
+                     uint8_t scheme, uint16_t mark, uint8_t *material, size_t material_room, uint8_t *zeros,
+                     size_t zeros_room, uint8_t *ones, size_t ones_room, uint64_t answer[4])
 {
     struct sizes z;
     uint64_t place;
@@ -106,15 +110,24 @@ uint8_t NAME(garble)(const uint8_t *circuit, size_t length, const uint8_t *seed,
         return answered(answer, number, place, 0);
     if (seed_length != 16)
         return answered(answer, 8, seed_length, 0);
+    if (mark != 0x4748 && mark != 0x474A)
+        return answered(answer, 13, 0, 0);
     if (scheme < 1 || scheme > 4)
         return answered(answer, 14, scheme, 0);
-    size_t file = material_length(&z, scheme), wires = 16 * (z.n + z.q), inputs = 16 * z.n;
+    unsigned hashed = mark == 0x474A;
+    size_t file = material_length(&z, scheme, hashed), wires = 16 * (z.n + z.q), inputs = 16 * z.n;
     if (material_room < file)
         return answered(answer, 19, file, 0);
     if (zeros_room < wires)
         return answered(answer, 19, wires, 0);
     if (ones_room < inputs)
         return answered(answer, 19, inputs, 0);
-    garble_all(scheme, circuit, &z, seed, run, material, zeros, ones);
-    return answered(answer, 0, file, 4 * z.p);
+    size_t clash = garble_all(scheme, mark, circuit, &z, seed, run, material, zeros, ones);
+    if (clash != 0) {
+        memset(material, 0, file);
+        memset(zeros, 0, wires);
+        memset(ones, 0, inputs);
+        return answered(answer, 30, clash, 0);
+    }
+    return answered(answer, 0, file, 4 * z.p + (hashed ? 2 * z.m : 0));
 }

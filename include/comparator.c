@@ -10,13 +10,14 @@
 #include <string.h>
 #include <sys/random.h>
 
-/* The bits of a figure, and what comes of them: the wires, and bytes. Scheme 1 has the longest material. */
+/* The bits of a figure, and what comes of them: the wires, and bytes. Scheme 1 has the longest material. With the mark
+ * 47 4A it has 32 bytes for the output, so that the desk does not take a wrong token for an answer. */
 enum {
     WIDTH = 32,
     INPUTS = 2 * WIDTH,
     WIRES = 6 * WIDTH - 3,
     CIRCUIT = 28 * WIDTH - 13,
-    MATERIAL = 11 + 1 + WIDTH * (4 + 16 * 4)
+    MATERIAL = 11 + 32 + WIDTH * (4 + 16 * 4)
 };
 
 /* What the desk gets from the seller, and from purchasing. */
@@ -50,8 +51,9 @@ static int garble(const uint8_t circuit[CIRCUIT], const uint8_t seed[16], uint64
     int failed;
     put_figure(price, values);
     put_figure(ceiling, values + WIDTH);
-    if (refused("garble", weighhare_garble(circuit, CIRCUIT, seed, 16, run, scheme, to->material, sizeof to->material,
-                                           zeros, sizeof zeros, ones, sizeof ones, answer), answer)) return 1;
+    if (refused("garble", weighhare_garble(circuit, CIRCUIT, seed, 16, run, scheme, WEIGHHARE_HASHES, to->material,
+                                           sizeof to->material, zeros, sizeof zeros, ones, sizeof ones, answer),
+                answer)) return 1;
     to->length = (size_t)answer[0];
     failed = refused("encode", weighhare_encode(circuit, CIRCUIT, values, sizeof values, zeros, INPUTS * 16, ones,
                                                 sizeof ones, to->tokens, sizeof to->tokens, answer), answer);

@@ -1,6 +1,7 @@
 /*
- * An AND gate garbled, evaluated from its bytes and from a list of gates, and decoded, for each pair of input values: all from
- * one seed, each a run of its own. Then the outputs of a circuit that names them, and three refusals. C11, and C++17 too.
+ * An AND gate garbled, evaluated from its bytes and from a list of gates, and decoded, for each pair of input values:
+ * all from one seed, each a run of its own. Then one with hashes, so that a token that was mistyped is refused; the
+ * outputs of a circuit that names them; and three more refusals. C11, and C++17 too.
  */
 #define _DEFAULT_SOURCE /* explicit_bzero */
 #include "weighhare.h"
@@ -44,8 +45,9 @@ static int work(const uint8_t seed[16], uint64_t run, uint8_t scheme, uint8_t u,
 
     /* The garbler's side: a run number that no other garbling from this seed has. It sends the material, and a token for
      * each input. */
-    if (refused("garble", weighhare_garble(and_gate, sizeof and_gate, seed, 16, run, scheme, material, sizeof material,
-                                           zeros, sizeof zeros, ones, sizeof ones, answer), answer)) return 1;
+    if (refused("garble", weighhare_garble(and_gate, sizeof and_gate, seed, 16, run, scheme, WEIGHHARE_COLOURS,
+                                           material, sizeof material, zeros, sizeof zeros, ones, sizeof ones, answer),
+                answer)) return 1;
     length = (size_t)answer[0];
     if (refused("encode", weighhare_encode(and_gate, sizeof and_gate, values, sizeof values, zeros, 2 * 16, ones, sizeof ones,
                                            tokens, sizeof tokens, answer), answer)) return 1;
@@ -82,6 +84,38 @@ static int work_all(const uint8_t seed[16]) {
     return 0;
 }
 
+/* Decodes an output's token by material of mark 47 4A, as it is and mistyped. Whether the right one was refused. */
+static int decode_hashed(const uint8_t *material, size_t length, uint8_t output[16]) {
+    uint8_t bit[1];
+    uint64_t answer[4];
+    if (refused("decode", weighhare_decode(and_gate, sizeof and_gate, output, 16, material, length, bit, sizeof bit,
+                                           answer), answer)) return 1;
+    printf("with hashes: 1 AND 1 is %u, in %u bytes of material\n", bit[0], (unsigned)length);
+    output[3] ^= 0x10;
+    refused("decode of a mistyped token", weighhare_decode(and_gate, sizeof and_gate, output, 16, material, length, bit,
+                                                           sizeof bit, answer), answer);
+    return 0;
+}
+
+/* One garbling with hashes, by half-gates, evaluated on the one tokens. Whether something refused. */
+static int work_hashed(const uint8_t seed[16], uint64_t run) {
+    uint8_t material[79], zeros[3 * 16], ones[2 * 16], wires[3 * 16];
+    uint64_t answer[4];
+    size_t length;
+    int failed;
+    if (refused("garble", weighhare_garble(and_gate, sizeof and_gate, seed, 16, run, WEIGHHARE_HALF_GATES,
+                                           WEIGHHARE_HASHES, material, sizeof material, zeros, sizeof zeros, ones,
+                                           sizeof ones, answer), answer)) return 1;
+    length = (size_t)answer[0];
+    failed = refused("evaluate", weighhare_evaluate(and_gate, sizeof and_gate, ones, sizeof ones, material, length,
+                                                    wires, sizeof wires, answer), answer) ||
+             decode_hashed(material, length, wires + 2 * 16);
+    explicit_bzero(zeros, sizeof zeros);
+    explicit_bzero(ones, sizeof ones);
+    explicit_bzero(wires, sizeof wires);
+    return failed;
+}
+
 /* Which of the wires 1, 2, 3 each named output is, by tokens that tell them. Whether something refused. */
 static int work_named(void) {
     uint8_t wires[3 * 16], outputs[3 * 16];
@@ -102,7 +136,7 @@ int main(void) {
         printf("no seed\n");
         return 1;
     }
-    failed = work_all(seed);
+    failed = work_all(seed) || work_hashed(seed, 16);
     explicit_bzero(seed, sizeof seed);
     if (failed || work_named()) return 1;
     refused("check of 7 bytes", weighhare_check(and_gate, 7, answer), answer);

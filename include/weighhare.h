@@ -12,7 +12,8 @@
  *     skips what it has no argument for. A condition on several lists or buffers is tried in the order of the arguments;
  *   - sets all four words of `answer`. If it refuses, answer[0] is the refusal's place; else the words are its results.
  *     Words that are not used are 0;
- *   - leaves every output buffer as it was if it refuses, and else writes only the bytes named, at the front;
+ *   - leaves every output buffer as it was if it refuses, and else writes only the bytes named, at the front. There is
+ *     one exception, refusal 30 of garble: the bytes that it would have written are zero, all others as they were;
  *   - takes any bytes and any lengths, and keeps nothing: no memory, no state, no pointer.
  * weighhare_words and weighhare_place_words, at the end, say in words what a refusal's number and its place mean.
  *
@@ -36,10 +37,12 @@
  *     values, by a call that a compiler does not drop, such as explicit_bzero. Nothing here wipes anything. What a
  *     function leaves on the stack is not wiped either.
  *   - Secret are, at the garbler's, the seed, R, both tokens of every wire and the values; at the evaluator's, the
- *     tokens that it holds. The circuit, the material, lengths, the run number, the scheme and what is refused are not.
- *     In garble and encode no look-up and no branch depends on a secret: this is tested on the archive, for x86-64,
- *     under valgrind's memcheck, and not proved. evaluate, in both forms, is not constant-time, and what pick answers
- *     shows its bit: see there. How long anything takes is promised of no function.
+ *     tokens that it holds. The circuit, the material, lengths, the run number, the scheme, the mark and what is
+ *     refused are not. In garble, encode and decode no look-up and no branch depends on a secret, but for two branches
+ *     with the mark 47 4A: of garble on whether it refuses with 30, of decode on whether it refuses with 29. This is
+ *     tested on the archive, for x86-64, under valgrind's memcheck, and not proved. evaluate, in both forms, is not
+ *     constant-time, and what pick answers shows its bit: see there. How long anything takes is promised of no
+ *     function.
  *
  * Below n, m, q and p are the circuit's inputs, outputs, gates and charged gates. Limits: n is 2 to 4,096, m is 1 to q,
  * with the mark 43 49 1 to n+q, q is at least 1, and n+q is at most 65,535. Wires are numbered from 1: the inputs 1 to n,
@@ -50,6 +53,13 @@
  * order. With 43 49 they are the wires that m output records name, after the gates, in the order of the records: inputs,
  * gates' wires, in any order, a wire more than once too. Lists of tokens and of values of all wires, or of the inputs, are
  * in the order of the wires; those of the outputs are in the order of the outputs.
+ *
+ * The material begins with one of two marks too, which say what decoding goes by. With 47 48 it has a colour for each
+ * output, and any token decodes to some bit. With 47 4A it has two hashes for each output, of its zero token and of its
+ * one token, and a token that has neither hash is refused, 29: one that was mistyped, that was mixed up with one of
+ * another output or garbling, or that came of a damaged row. It is no help against whoever changes the material, or
+ * garbles wrongly: with an output's two hashes exchanged its tokens decode to the opposite bit, and nothing sees it.
+ * garble takes the mark that is wanted; all other functions go by that of the material.
  */
 #ifndef WEIGHHARE_H
 #define WEIGHHARE_H
@@ -59,7 +69,7 @@
  * and no linker compares arguments: compile every object with the header that came with the archive. docs/CHANGES.md
  * has what each version changed.
  */
-#define WEIGHHARE_VERSION "0.10.1"
+#define WEIGHHARE_VERSION "0.11.0"
 
 #include <stddef.h>
 #include <stdint.h>
@@ -71,7 +81,7 @@ extern "C" {
 /*
  * What the functions return: 0, or why they refused. In brackets: what the refusal's place is, which answer[0] gives, and
  * after a colon more about it. Marks are in hexadecimal; offsets count from 0. No function gives 22 to 24 yet: they are
- * kept for a reader of circuits that are text.
+ * kept for a reader of circuits that are text. Nor 27 and 28, for an evaluator that is driven as a board.
  */
 enum {
     WEIGHHARE_DONE = 0,             /* nothing refused */
@@ -88,12 +98,14 @@ enum {
     WEIGHHARE_TOKENS_LENGTH = 11,   /* a token list has the wrong length [its length: the first such]; in pick, the lists'
                                        lengths differ or are no multiple of 16 [the zero list's length] */
     WEIGHHARE_MATERIAL_SHORT = 12,  /* the material has under 9 bytes [its length] */
-    WEIGHHARE_MATERIAL_MARK = 13,   /* the material does not begin with the mark 47 48 [offset: 0] */
+    WEIGHHARE_MATERIAL_MARK = 13,   /* the mark, the argument or the material's, is not 47 48 or 47 4A [offset: 0] */
     WEIGHHARE_SCHEME = 14,          /* the scheme, the argument or the material's, is not 1, 2, 3 or 4 [the scheme] */
     WEIGHHARE_MATERIAL_SIZES = 15,  /* the material's n, m or q is not the circuit's [offset: 3] */
-    WEIGHHARE_MATERIAL_LENGTH = 16, /* the material's length is not that of its scheme and the circuit [its length] */
+    WEIGHHARE_MATERIAL_LENGTH = 16, /* the material's length is not that of its mark, its scheme and the circuit
+                                       [its length] */
     WEIGHHARE_ROW_RECORD = 17,      /* a row record has a wrong mark or wire number [the wire number due] */
-    WEIGHHARE_LAST_RECORD = 18,     /* the material's last record has a wrong mark or a byte over 1 [where it starts] */
+    WEIGHHARE_LAST_RECORD = 18,     /* the material's last record has a wrong mark or a colour over 1
+                                       [where it starts] */
     WEIGHHARE_ROOM = 19,            /* an output buffer is too short [bytes needed: for the first such] */
     WEIGHHARE_PICK_WIRE = 20,       /* pick's wire is 0 or past the lists [the wire] */
     WEIGHHARE_WIDTH = 21,           /* the width is not 1 to 64 [the width] */
@@ -103,7 +115,13 @@ enum {
                                        inputs plus gates [the line: 1] */
     WEIGHHARE_TEXT_OUTPUT = 24,     /* a gate's output is not the next wire [the line: from 1] */
     WEIGHHARE_OUTPUT_MARK = 25,     /* an output record does not begin with the mark 43 4F [the output: from 1] */
-    WEIGHHARE_OUTPUT_WIRE = 26      /* an output record's wire is 0 or above n+q [the output: from 1] */
+    WEIGHHARE_OUTPUT_WIRE = 26,     /* an output record's wire is 0 or above n+q [the output: from 1] */
+    WEIGHHARE_COMMAND = 27,         /* the board's command is not 1 to 4 [the command] */
+    WEIGHHARE_NOT_READY = 28,       /* the board is not loaded, is done, or its next gate is outside n+1 to n+q
+                                       [always: 0] */
+    WEIGHHARE_OUTPUT_TOKEN = 29,    /* the hash of an output's token is neither of its two in the material
+                                       [the output: the first, from 1] */
+    WEIGHHARE_OUTPUT_HASHES = 30    /* an output's two hashes are equal [the output: the first, from 1] */
 };
 
 /*
@@ -128,15 +146,21 @@ enum {
 };
 
 /*
- * Schemes: rows for each charged gate, and so the material's length, 11 + m + p(4 + 16 rows). Schemes 3 and 4 differ in
- * their hash alone, and their material has one length: where its scheme byte is changed from the one to the other,
- * nothing refuses it, and it opens to other tokens.
+ * Schemes: rows for each charged gate, and so the material's length, 11 + m + p(4 + 16 rows), with the mark 47 4A
+ * 11 + 32m + p(4 + 16 rows). Schemes 3 and 4 differ in their hash alone, and their material has one length: where its
+ * scheme byte is changed from the one to the other, nothing refuses it, and it opens to other tokens.
  */
 enum {
     WEIGHHARE_GAX = 1,               /* four rows */
     WEIGHHARE_GAXR = 2,              /* three rows */
     WEIGHHARE_HALF_GATES = 3,        /* two rows; its hash has one fixed key */
     WEIGHHARE_REKEYED_HALF_GATES = 4 /* two rows; the key of its hash changes with each tweak */
+};
+
+/* Marks of the material: its first two bytes as a number, and what its last record has for each output. */
+enum {
+    WEIGHHARE_COLOURS = 0x4748, /* 47 48: a colour, 1 byte; decode takes any token */
+    WEIGHHARE_HASHES = 0x474A   /* 47 4A: two hashes, 32 bytes; decode refuses a token that has neither, 29 */
 };
 
 /*
@@ -157,10 +181,15 @@ uint8_t weighhare_plain(const uint8_t *circuit, size_t circuit_len, const uint8_
                         uint8_t *wires, size_t wires_len, uint64_t answer[4]);
 
 /*
- * Garbles a circuit. Refusals 1 to 7, 25, 26, 8, 14, 19.
+ * Garbles a circuit. Refusals 1 to 7, 25, 26, 8, 13, 14, 19, 30.
  *
- * No look-up and no branch depends on the seed, R or a token: AES is bitsliced, four blocks at once. This is tested on
- * the archive and not proved.
+ * Refusal 30 is of the mark 47 4A alone: the two hashes of some output are equal, so that decoding could not tell 0
+ * from 1. It comes last, and it is the one refusal that changes buffers: the bytes that would have been written to
+ * `material`, `zeros` and `ones` are zero then. No run is known that meets it: two values of 128 bits would have to
+ * agree by chance. Who meets it takes another seed or run number.
+ *
+ * No look-up and no branch depends on the seed, R or a token, but for one branch with the mark 47 4A, on whether it
+ * refuses with 30: AES is bitsliced, four blocks at once. This is tested on the archive and not proved.
  *
  *   circuit   the circuit's bytes
  *   seed      16 bytes from getrandom(2) or another source of the system's random numbers, used for no other garbling
@@ -168,15 +197,17 @@ uint8_t weighhare_plain(const uint8_t *circuit, size_t circuit_len, const uint8_
  *   run       the run number: which of the seed's garblings this is; 0 for a seed that has one alone. Every number is
  *             taken. It stands in no file, and no other function asks for it
  *   scheme    1, 2, 3 or 4
- *   material  output: 11 + m + p(4 + 16 rows) bytes, with 4, 3, 2, 2 rows in schemes 1, 2, 3, 4; for the evaluator
+ *   mark      WEIGHHARE_COLOURS or WEIGHHARE_HASHES: the mark that the material is to have; the tokens are the same
+ *   material  output: 11 + m + p(4 + 16 rows) bytes, with 4, 3, 2, 2 rows in schemes 1, 2, 3, 4; with the mark 47 4A
+ *             11 + 32m + p(4 + 16 rows); for the evaluator
  *   zeros     output: 16(n+q) bytes, the zero token of every wire; secret, to wipe when the inputs' tokens are chosen
  *   ones      output: 16n bytes, the one token of every input; secret, to wipe then too
- *   answer    the material's length, the calls of the block cipher made (4p), 0, 0. A call is one encryption; expanding a
- *             key is none, and encryptions under the seed are not counted
+ *   answer    the material's length, the calls of the block cipher made (4p, with the mark 47 4A 4p + 2m), 0, 0. A
+ *             call is one encryption; expanding a key is none, and encryptions under the seed are not counted
  */
 uint8_t weighhare_garble(const uint8_t *circuit, size_t circuit_len, const uint8_t *seed, size_t seed_len, uint64_t run,
-                         uint8_t scheme, uint8_t *material, size_t material_len, uint8_t *zeros, size_t zeros_len,
-                         uint8_t *ones, size_t ones_len, uint64_t answer[4]);
+                         uint8_t scheme, uint16_t mark, uint8_t *material, size_t material_len, uint8_t *zeros,
+                         size_t zeros_len, uint8_t *ones, size_t ones_len, uint64_t answer[4]);
 
 /*
  * Chooses the inputs' tokens: for value 0 that of the zero list, for value 1 that of the one list.
@@ -210,11 +241,12 @@ uint8_t weighhare_encode(const uint8_t *circuit, size_t circuit_len, const uint8
  *
  * A garbling is for one evaluation: a second, on another input list, shows R wherever two tokens of a wire differ.
  *
- * Material that somebody else made can be well-formed and wrong. No row is checked: a bad one still ends in some token.
+ * Material that somebody else made can be well-formed and wrong. No row is checked: a bad one still ends in some token,
+ * which decode refuses, with the mark 47 4A, if it is an output's and not one of its two.
  *
  *   circuit   the circuit's bytes
  *   tokens    16n bytes: a token for each input; to wipe after use
- *   material  the material, exactly as long as garble's answer says
+ *   material  the material, of either mark, exactly as long as garble's answer says
  *   wires     output: 16(n+q) bytes, the token of every wire; to wipe after use
  *   answer    the calls of the block cipher made (p in schemes 1 and 2, 2p in schemes 3 and 4), 0, 0, 0
  */
@@ -257,15 +289,22 @@ uint8_t weighhare_output_tokens(const uint8_t *circuit, size_t circuit_len, cons
                                 uint8_t *tokens, size_t tokens_len, uint64_t answer[4]);
 
 /*
- * Decodes the outputs' tokens to bits. Refusals 1 to 7, 25, 26, 11, 12 to 18, 19.
+ * Decodes the outputs' tokens to bits. Refusals 1 to 7, 25, 26, 11, 12 to 18, 19, 29.
  *
- * Any tokens decode. Material that somebody else made can be well-formed and wrong: a flipped byte of its last record
- * turns a 0 into a 1, and nothing here sees it.
+ * With the mark 47 48 any tokens decode. With 47 4A a token's hash must be one of the two that the material has for its
+ * output: 0 if it is the first, else 1 if it is the second, else refusal 29, at the first such output. So a token shows
+ * that was mistyped, mixed up with another, or came of a damaged row.
+ *
+ * Material that somebody else made can be well-formed and wrong, with either mark: a colour flipped, or an output's two
+ * hashes exchanged, turns a 0 into a 1, and nothing here sees it.
+ *
+ * No look-up and no branch depends on a token, but for one branch with the mark 47 4A, on whether it refuses with 29:
+ * then it looks for the first. This is tested on the archive and not proved.
  *
  *   circuit   the circuit's bytes
  *   tokens    16m bytes: the tokens of the outputs, what weighhare_output_tokens writes; for a circuit of mark 43 48 the
  *             last 16m of the 16(n+q) bytes that evaluate wrote
- *   material  the material, exactly as long as garble's answer says
+ *   material  the material, of either mark, exactly as long as garble's answer says
  *   bits      output: m bytes, each 0 or 1, in the order of the outputs
  *   answer    0, 0, 0, 0
  */
@@ -316,11 +355,17 @@ static inline size_t weighhare_input_tokens_length(const uint64_t sizes[4]) { re
 /* A token for every output, 16m: output_tokens' `tokens`. */
 static inline size_t weighhare_output_tokens_length(const uint64_t sizes[4]) { return (size_t)(16 * sizes[1]); }
 
-/* The material under a scheme, 11 + m + p(4 + 16 rows); 0 for a scheme that there is not. */
+/* The material of mark 47 48 under a scheme, 11 + m + p(4 + 16 rows); 0 for a scheme that there is not. */
 static inline size_t weighhare_material_length(const uint64_t sizes[4], uint8_t scheme) {
     const uint64_t rows[5] = {0, 4, 3, 2, 2};
     if (scheme < WEIGHHARE_GAX || scheme > WEIGHHARE_REKEYED_HALF_GATES) return 0;
     return (size_t)(11 + sizes[1] + sizes[3] * (4 + 16 * rows[scheme]));
+}
+
+/* The material of mark 47 4A under a scheme, 11 + 32m + p(4 + 16 rows); 0 for a scheme that there is not. */
+static inline size_t weighhare_hashed_material_length(const uint64_t sizes[4], uint8_t scheme) {
+    const size_t with_colours = weighhare_material_length(sizes, scheme);
+    return with_colours == 0 ? 0 : with_colours + (size_t)(31 * sizes[1]);
 }
 
 /* The circuit that weighhare_comparator writes for a width w, 28w-13; 0 for a width that it refuses. */
@@ -328,7 +373,7 @@ static inline size_t weighhare_comparator_length(uint64_t width) {
     return width < 1 || width > 64 ? 0 : (size_t)(28 * width - 13);
 }
 
-/* What a function's number says, in words: for 0 "nothing refused", from 27 "no such refusal". */
+/* What a function's number says, in words: for 0 "nothing refused", from 31 "no such refusal". */
 static inline const char *weighhare_words(uint8_t number) {
     switch (number) {
     case WEIGHHARE_DONE: return "nothing refused";
@@ -344,12 +389,12 @@ static inline const char *weighhare_words(uint8_t number) {
     case WEIGHHARE_VALUE: return "a value is neither 0 nor 1";
     case WEIGHHARE_TOKENS_LENGTH: return "a token list has the wrong length";
     case WEIGHHARE_MATERIAL_SHORT: return "the material has under 9 bytes";
-    case WEIGHHARE_MATERIAL_MARK: return "the material does not begin with the mark 47 48";
+    case WEIGHHARE_MATERIAL_MARK: return "the mark, the argument or the material's, is not 47 48 or 47 4A";
     case WEIGHHARE_SCHEME: return "the scheme, the argument or the material's, is not 1, 2, 3 or 4";
     case WEIGHHARE_MATERIAL_SIZES: return "the material's n, m or q is not the circuit's";
-    case WEIGHHARE_MATERIAL_LENGTH: return "the material's length is not that of its scheme and the circuit";
+    case WEIGHHARE_MATERIAL_LENGTH: return "the material's length is not that of its mark, its scheme and the circuit";
     case WEIGHHARE_ROW_RECORD: return "a row record has a wrong mark or wire number";
-    case WEIGHHARE_LAST_RECORD: return "the material's last record has a wrong mark or a byte over 1";
+    case WEIGHHARE_LAST_RECORD: return "the material's last record has a wrong mark or a colour over 1";
     case WEIGHHARE_ROOM: return "an output buffer is too short";
     case WEIGHHARE_PICK_WIRE: return "pick's wire is 0 or past the lists";
     case WEIGHHARE_WIDTH: return "the width is not 1 to 64";
@@ -359,13 +404,17 @@ static inline const char *weighhare_words(uint8_t number) {
     case WEIGHHARE_TEXT_OUTPUT: return "a gate's output is not the next wire";
     case WEIGHHARE_OUTPUT_MARK: return "an output record does not begin with the mark 43 4F";
     case WEIGHHARE_OUTPUT_WIRE: return "an output record's wire is 0 or above n+q";
+    case WEIGHHARE_COMMAND: return "the board's command is not 1 to 4";
+    case WEIGHHARE_NOT_READY: return "the board is not loaded, is done, or its next gate is outside n+1 to n+q";
+    case WEIGHHARE_OUTPUT_TOKEN: return "the hash of an output's token is neither of its two in the material";
+    case WEIGHHARE_OUTPUT_HASHES: return "an output's two hashes are equal";
     default: return "no such refusal";
     }
 }
 
 /*
  * What a refusal's place, answer[0], is, in words: for "a gate's code is neither charged nor free (its wire number: 3)".
- * For 0 and from 27, "no place".
+ * For 0 and from 31, "no place".
  */
 static inline const char *weighhare_place_words(uint8_t number) {
     switch (number) {
@@ -394,7 +443,11 @@ static inline const char *weighhare_place_words(uint8_t number) {
     case WEIGHHARE_TEXT_COUNTS:
     case WEIGHHARE_TEXT_OUTPUT: return "the line";
     case WEIGHHARE_OUTPUT_MARK:
-    case WEIGHHARE_OUTPUT_WIRE: return "the output";
+    case WEIGHHARE_OUTPUT_WIRE:
+    case WEIGHHARE_OUTPUT_TOKEN:
+    case WEIGHHARE_OUTPUT_HASHES: return "the output";
+    case WEIGHHARE_COMMAND: return "the command";
+    case WEIGHHARE_NOT_READY: return "always";
     default: return "no place";
     }
 }

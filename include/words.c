@@ -1,15 +1,16 @@
 /*
  * What the header itself says. Prints the words of each number and of its place, for include/check to compare with the
- * comments of the enum, and tries the names of the codes and of the schemes on the archive. C11, and C++17 too.
+ * comments of the enum, and tries the names of the codes, of the schemes and of the marks on the archive. C11, and
+ * C++17 too.
  */
 #include "weighhare.h"
 
 #include <stdio.h>
 #include <string.h>
 
-/* Whether a number says something: 0 that nothing refused, 1 to 26 why. */
+/* Whether a number says something: 0 that nothing refused, 1 to 30 why. */
 static int is_told(unsigned number) {
-    return number <= WEIGHHARE_OUTPUT_WIRE;
+    return number <= WEIGHHARE_OUTPUT_HASHES;
 }
 
 /* Each of these has words of its own, and each but 0 a place; no other number has either. */
@@ -72,8 +73,9 @@ static int schemes(void) {
     unsigned scheme, next = 0;
     for (scheme = 0; scheme <= 255; scheme++) {
         int has_name = next < 4 && named[next][0] == scheme;
-        uint8_t number = weighhare_garble(circuit, sizeof circuit, seed, sizeof seed, 0, (uint8_t)scheme, material,
-                                          sizeof material, zeros, sizeof zeros, ones, sizeof ones, answer);
+        uint8_t number = weighhare_garble(circuit, sizeof circuit, seed, sizeof seed, 0, (uint8_t)scheme,
+                                          WEIGHHARE_COLOURS, material, sizeof material, zeros, sizeof zeros, ones,
+                                          sizeof ones, answer);
         if (number != (has_name ? WEIGHHARE_DONE : WEIGHHARE_SCHEME)) break;
         if (answer[0] != (has_name ? 11u + 1u + 4u + 16u * named[next][1] : scheme)) break;
         next += (unsigned)has_name;
@@ -82,6 +84,32 @@ static int schemes(void) {
     return scheme <= 255 || next != 4;
 }
 
+/* Whether garble, of an AND gate by half-gates, takes a mark as the header says: its material begins with the mark's
+ * two bytes, and has a colour or two hashes at its end, by its length. */
+static int mark_is_told(unsigned mark) {
+    const uint8_t circuit[15] = {0x43, 0x48, 0, 2, 0, 1, 0, 1, 0x43, 0x47, 0, 1, 0, 2, WEIGHHARE_AND}, seed[16] = {7};
+    const int has_name = mark == WEIGHHARE_COLOURS || mark == WEIGHHARE_HASHES;
+    uint8_t material[79], zeros[48], ones[32];
+    uint64_t answer[4];
+    uint8_t number = weighhare_garble(circuit, sizeof circuit, seed, sizeof seed, 0, WEIGHHARE_HALF_GATES,
+                                      (uint16_t)mark, material, sizeof material, zeros, sizeof zeros, ones,
+                                      sizeof ones, answer);
+    if (!has_name) return number == WEIGHHARE_MATERIAL_MARK && answer[0] == 0;
+    if (number != WEIGHHARE_DONE || answer[0] != 9u + 36u + 2u + (mark == WEIGHHARE_HASHES ? 32u : 1u)) return 0;
+    return material[0] == mark >> 8 && material[1] == (mark & 255);
+}
+
+/* The two marks that have names are taken, and no other. */
+static int marks(void) {
+    unsigned mark;
+    for (mark = 0; mark <= 65535; mark++) {
+        if (mark_is_told(mark)) continue;
+        printf("mark %04X is not what the header says\n", mark);
+        return 1;
+    }
+    return 0;
+}
+
 int main(void) {
-    return words() || codes(0, 0) || codes(0, 1) || codes(1, 0) || codes(1, 1) || schemes();
+    return words() || codes(0, 0) || codes(0, 1) || codes(1, 0) || codes(1, 1) || schemes() || marks();
 }

@@ -38,12 +38,13 @@ fn compare(figures: &[String]) -> Result<bool, Box<dyn Error>> {
 /// which is outside the library. The seed is used for this garbling alone: it is its run 0. Seed, zero and one tokens are wiped
 /// at the end.
 fn garble(circuit: &Circuit, values: &[u8]) -> Result<(Vec<u8>, Secret), Box<dyn Error>> {
-    let garbling = circuit.garble(&Seed::draw()?, 0, Scheme::HalfGates);
+    let garbling = circuit.garble_hashed(&Seed::draw()?, 0, Scheme::HalfGates)?;
     let tokens = circuit.encode(values, garbling.input_zeros(), garbling.ones())?;
     Ok((garbling.material().to_vec(), tokens))
 }
 
-/// The desk's side, which sees neither figure: whether the output's token decodes to 1.
+/// The desk's side, which sees neither figure: whether the output's token decodes to 1. By the hashes in the material, a token
+/// that is none of the output's two would be refused.
 fn evaluate(circuit: &Circuit, tokens: &[u8], material: &[u8]) -> Result<bool, Box<dyn Error>> {
     let evaluation = circuit.evaluate(tokens, material)?;
     let outputs = circuit.output_tokens(&evaluation.wires)?;

@@ -1,6 +1,6 @@
 //! A circuit that was checked, and the operations on it, which allocate what they write.
 
-use crate::{operations, Garbling, Refusal, Scheme, Secret, Seed, Sizes};
+use crate::{operations, Garbling, Mark, Refusal, Scheme, Secret, Seed, Sizes};
 
 /// The mark of a circuit whose outputs are its last wires: so their tokens are the last, and the library need not check the whole
 /// circuit once more to find them.
@@ -143,7 +143,8 @@ impl Circuit {
         Ok(outputs.iter().step_by(16).copied().collect())
     }
 
-    /// Garbles the circuit. Nothing is refused: the circuit was checked, a seed has 16 bytes, and every run number is taken.
+    /// Garbles the circuit, to material of mark 47 48, by which any token decodes to some bit. Nothing is refused: the
+    /// circuit was checked, a seed has 16 bytes, and every run number is taken.
     ///
     /// A seed is for one garbling for each run number; 0 for a seed that has one alone. In the library no look-up and
     /// no branch depends on the seed or a token, which is tested and not proved, as [`garble`](crate::garble) says.
@@ -157,7 +158,34 @@ impl Circuit {
     /// # Ok::<(), Box<dyn std::error::Error>>(())
     /// ```
     pub fn garble(&self, seed: &Seed, run: u64, scheme: Scheme) -> Garbling {
-        Garbling::of(self, seed, run, scheme)
+        let garbling = Garbling::of(self, seed, run, scheme, Mark::Colours);
+        garbling.expect("garble refuses no such arguments: its contract")
+    }
+
+    /// Garbles the circuit, to material of mark 47 4A: it has hashes of the outputs' tokens, so that
+    /// [`decode`](Self::decode) refuses a token that is none of its output's two. [`Mark`] says what that shows, and
+    /// what it does not. All else is as in [`garble`](Self::garble), and the tokens are the same.
+    ///
+    /// # Errors
+    ///
+    /// [`Refusal::OutputHashes`], 30, where an output's two hashes are equal. No run is known that meets it.
+    ///
+    /// ```
+    /// use weighhare::{Circuit, Refusal, Scheme, Seed};
+    ///
+    /// let circuit = Circuit::comparator(16)?;
+    /// let garbling = circuit.garble_hashed(&Seed::draw()?, 0, Scheme::HalfGates)?;
+    /// assert_eq!(garbling.material().len(), circuit.sizes().hashed_material_length(Scheme::HalfGates));
+    ///
+    /// // The output is the last wire. Its zero token decodes to 0; with a bit of it mistyped, it is refused.
+    /// let mut output = *garbling.zeros().last_chunk::<16>().expect("a wire");
+    /// assert_eq!(circuit.decode(&output, garbling.material()), Ok(vec![0]));
+    /// output[3] ^= 0x10;
+    /// assert_eq!(circuit.decode(&output, garbling.material()), Err(Refusal::OutputToken { output: 1 }));
+    /// # Ok::<(), Box<dyn std::error::Error>>(())
+    /// ```
+    pub fn garble_hashed(&self, seed: &Seed, run: u64, scheme: Scheme) -> Result<Garbling, Refusal> {
+        Garbling::of(self, seed, run, scheme, Mark::Hashes)
     }
 
     /// The inputs' tokens for their values, 16n bytes: `values` has n bytes, each 0 or 1, `zeros` and `ones` 16n bytes each.
@@ -234,11 +262,12 @@ impl Circuit {
 
     /// The outputs' bits, m bytes, each 0 or 1, in the order of the outputs, from their tokens, 16m bytes.
     ///
-    /// Any tokens decode, and somebody else's material can be well-formed and wrong.
+    /// With material of mark 47 48 any tokens decode; with 47 4A a token that is none of its output's two is refused.
+    /// Either way somebody else's material can be well-formed and wrong.
     ///
     /// # Errors
     ///
-    /// Refusals 11 to 18.
+    /// Refusals 11 to 18, and 29.
     ///
     /// ```
     /// use weighhare::{Circuit, Refusal};

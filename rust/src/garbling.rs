@@ -1,6 +1,6 @@
 //! What the garbler holds of one garbling.
 
-use crate::{operations, Circuit, Refusal, Scheme, Secret, Seed};
+use crate::{operations, Circuit, Mark, Refusal, Scheme, Secret, Seed};
 
 /// A garbled circuit: the material, which the evaluator gets, and the tokens, of which it gets one for each input and which
 /// are wiped when this is dropped.
@@ -16,11 +16,11 @@ pub struct Garbling {
 }
 
 impl Garbling {
-    /// Garbles a circuit that was checked.
-    pub(crate) fn of(circuit: &Circuit, seed: &Seed, run: u64, scheme: Scheme) -> Self {
+    /// Garbles a circuit that was checked. Only refusal 30 is left, of [`Mark::Hashes`].
+    pub(crate) fn of(circuit: &Circuit, seed: &Seed, run: u64, scheme: Scheme, mark: Mark) -> Result<Self, Refusal> {
         let sizes = circuit.sizes();
         let mut garbling = Self {
-            material: vec![0; sizes.material_length(scheme)],
+            material: vec![0; sizes.length_with(mark, scheme)],
             zeros: Secret::zeroed(sizes.wire_tokens_length()),
             ones: Secret::zeroed(sizes.input_tokens_length()),
             calls: 0,
@@ -30,12 +30,13 @@ impl Garbling {
             seed.bytes(),
             run,
             scheme.number(),
+            mark.number(),
             &mut garbling.material,
             &mut garbling.zeros,
             &mut garbling.ones,
         );
-        garbling.calls = garbled.expect("garble refuses no such arguments: its contract").calls;
-        garbling
+        garbling.calls = garbled?.calls;
+        Ok(garbling)
     }
 
     /// The material: for the evaluator.
@@ -90,7 +91,7 @@ impl Garbling {
         &self.ones
     }
 
-    /// The calls of the block cipher made, 4p.
+    /// The calls of the block cipher made: 4p, and with hashes another 2m.
     ///
     /// ```
     /// # use weighhare::{Circuit, Scheme, Seed};

@@ -9,15 +9,21 @@
 //! [`Garbling`], and what is secret is wiped when it is dropped ([`Seed`], [`Secret`]). The second are the functions on slices
 //! ([`check`], [`garble`], [`evaluate`] and so on), for who brings the buffers; [`Sizes`] says how long these must be.
 //!
-//! An operation answers with its results, or with a [`Refusal`], which leaves every buffer as it was. Buffers that are lent
-//! may be longer than what is written; bytes past that are untouched. Below n, m, q and p are the circuit's inputs, outputs,
-//! gates and charged gates. Wires are numbered from 1: the inputs 1 to n, then the gates n+1 to n+q. Lists of tokens
-//! and of values are in that order, those of the outputs in the order of the outputs. `docs/FORMATS.md` of the repository
-//! has the bytes of a circuit and of the material.
+//! An operation answers with its results, or with a [`Refusal`], which leaves every buffer as it was, but for
+//! [one](Refusal::OutputHashes). Buffers that are lent may be longer than what is written; bytes past that are
+//! untouched. Below n, m, q and p are the circuit's inputs, outputs, gates and charged gates. Wires are numbered from
+//! 1: the inputs 1 to n, then the gates n+1 to n+q. Lists of tokens and of values are in that order, those of the
+//! outputs in the order of the outputs. `docs/FORMATS.md` of the repository has the bytes of a circuit and of the
+//! material.
 //!
 //! A circuit begins with one of two marks, which say what its outputs are. With 43 48 they are the last m wires, in rising
 //! order. With 43 49 they are the wires that m output records name, after the gates, in the order of the records: inputs,
 //! gates' wires, in any order, a wire more than once too. [`output_tokens`] gathers their tokens from those of all wires.
+//!
+//! The material begins with one of two marks too ([`Mark`]), which say what decoding goes by. With 47 48, which
+//! [`Circuit::garble`] writes, any token decodes to some bit. With 47 4A, which [`Circuit::garble_hashed`] writes, a
+//! token that is none of its output's two is refused, 29. That shows a token that was mistyped, mixed up or came of a
+//! damaged row; it does not show material whose garbler, or whoever changed it, exchanged an output's two hashes.
 //!
 //! Who wants to compare two figures needs to draw no circuit: [`Circuit::comparator`] makes it for their number of bits,
 //! [`figures_to_values`] turns figures into the values of its inputs, and [`values_figure`] turns values into a figure.
@@ -40,10 +46,11 @@
 //!   functions on slices wipes the seed, `zeros` and `ones`, `tokens` and `wires`, and the values, by a write that a compiler
 //!   does not drop, such as `write_volatile`. What a function leaves on the stack is not wiped.
 //! - Secret are, at the garbler's, the seed, R, both tokens of every wire and the values; at the evaluator's, the
-//!   tokens that it holds. In the library's [`garble`] and [`encode`] no look-up and no branch depends on a secret:
-//!   this is tested on the archive, for x86-64, under valgrind's memcheck, and not proved. [`evaluate`] and
-//!   [`evaluate_gates`] are not constant-time, and which list [`pick`] reads depends on its bit: see there. This
-//!   crate's own code is not tested so, and how long anything takes is promised of no function.
+//!   tokens that it holds. In the library's [`garble`], [`encode`] and [`decode`] no look-up and no branch depends on a
+//!   secret, but for two branches with the mark 47 4A: of garble on whether it refuses with 30, of decode on whether it
+//!   refuses with 29. This is tested on the archive, for x86-64, under valgrind's memcheck, and not proved.
+//!   [`evaluate`] and [`evaluate_gates`] are not constant-time, and which list [`pick`] reads depends on its bit: see
+//!   there. This crate's own code is not tested so, and how long anything takes is promised of no function.
 //!
 //! # Example
 //!
@@ -77,6 +84,7 @@ mod figures;
 mod garbling;
 mod gate;
 mod library;
+mod mark;
 mod operations;
 mod refusal;
 mod scheme;
@@ -87,6 +95,7 @@ pub use circuit::{Circuit, Evaluation};
 pub use figures::{figure_values, figures_to_values, values_figure, FigureTooLarge};
 pub use garbling::Garbling;
 pub use gate::Gate;
+pub use mark::Mark;
 pub use operations::{
     check, comparator, decode, encode, evaluate, evaluate_gates, garble, output_tokens, pick, plain, Garbled,
 };

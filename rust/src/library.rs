@@ -26,6 +26,7 @@ extern "C" {
         seed_len: usize,
         run: u64,
         scheme: u8,
+        mark: u16, // any: refusal 13 where it is neither 0x4748 nor 0x474A
         material: *mut u8,
         material_len: usize,
         zeros: *mut u8,

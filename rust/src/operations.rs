@@ -8,7 +8,8 @@ use crate::{library, Gate, Refusal, Sizes};
 pub struct Garbled {
     /// The material's length: this many bytes at the front of the buffer, and no more, are what an evaluator needs.
     pub length: usize,
-    /// The calls of the block cipher made, 4p: each is one encryption. Those under the seed are not counted.
+    /// The calls of the block cipher made, 4p, with the mark 47 4A 4p+2m: each is one encryption. Those under the seed
+    /// are not counted.
     pub calls: usize,
 }
 
@@ -72,34 +73,48 @@ pub fn plain(circuit: &[u8], values: &[u8], wires: &mut [u8]) -> Result<(), Refu
 /// no other garbling with the same run number. `run` is the run number: which of the seed's garblings this is; 0 for a seed
 /// that has one alone. Every number is taken. It stands in no file, and no other function asks for it.
 ///
-/// Writes 11+m+p(4+16r) bytes to `material`, where r is 4, 3, 2, 2 in schemes 1, 2, 3, 4; 16(n+q) bytes to `zeros`, the zero
-/// token of every wire; and 16n bytes to `ones`, the one token of every input. Both lists are secret. Wipe `seed` when its
-/// last garbling is made, `zeros` and `ones` when the inputs' tokens are chosen.
+/// `mark` is the mark that the material is to have, as a number: 0x4748 or 0x474A ([`Mark`](crate::Mark)). The tokens
+/// are the same with both.
 ///
-/// No look-up and no branch depends on the seed, R or a token: AES is bitsliced, four blocks at once. This is tested on
-/// the archive and not proved.
+/// Writes 11+m+p(4+16r) bytes to `material`, with the mark 47 4A 11+32m+p(4+16r), where r is 4, 3, 2, 2 in schemes 1,
+/// 2, 3, 4; 16(n+q) bytes to `zeros`, the zero token of every wire; and 16n bytes to `ones`, the one token of every
+/// input. Both lists are secret. Wipe `seed` when its last garbling is made, `zeros` and `ones` when the inputs' tokens
+/// are chosen.
+///
+/// No look-up and no branch depends on the seed, R or a token, but for one branch with the mark 47 4A, on whether it
+/// refuses with 30: AES is bitsliced, four blocks at once. This is tested on the archive and not proved.
 ///
 /// # Errors
 ///
-/// Refusals 1 to 7, 25, 26, 8, 14, 19.
+/// Refusals 1 to 7, 25, 26, 8, 13, 14, 19, 30. The last, of the mark 47 4A alone, is the one refusal that changes
+/// buffers: the bytes that would have been written are zero then.
 ///
 /// ```
-/// use weighhare::Refusal;
+/// use weighhare::{Mark, Refusal};
 ///
 /// let circuit = [0x43, 0x48, 0, 2, 0, 1, 0, 1, 0x43, 0x47, 0, 1, 0, 2, 8];
-/// let (mut material, mut zeros, mut ones) = ([0; 48], [0; 48], [0; 32]);
-/// let garbled = weighhare::garble(&circuit, &[7; 16], 0, 3, &mut material, &mut zeros, &mut ones)?;
+/// let (mut material, mut zeros, mut ones) = ([0; 79], [0; 48], [0; 32]);
+/// let colours = Mark::Colours.number();
+/// let garbled = weighhare::garble(&circuit, &[7; 16], 0, 3, colours, &mut material, &mut zeros, &mut ones)?;
 /// assert_eq!((garbled.length, garbled.calls), (48, 4));
 ///
-/// let refused = weighhare::garble(&circuit, &[7; 16], 1, 5, &mut material, &mut zeros, &mut ones);
+/// let hashes = Mark::Hashes.number();
+/// let garbled = weighhare::garble(&circuit, &[7; 16], 1, 3, hashes, &mut material, &mut zeros, &mut ones)?;
+/// assert_eq!((garbled.length, garbled.calls), (79, 6));
+///
+/// let refused = weighhare::garble(&circuit, &[7; 16], 2, 5, hashes, &mut material, &mut zeros, &mut ones);
 /// assert_eq!(refused, Err(Refusal::Scheme { scheme: 5 }));
+/// let refused = weighhare::garble(&circuit, &[7; 16], 2, 5, 0x4749, &mut material, &mut zeros, &mut ones);
+/// assert_eq!(refused, Err(Refusal::MaterialMark));
 /// # Ok::<(), Refusal>(())
 /// ```
+#[allow(clippy::too_many_arguments)] // As in C: each is one thing, and the order is that of its refusals.
 pub fn garble(
     circuit: &[u8],
     seed: &[u8],
     run: u64,
     scheme: u8,
+    mark: u16,
     material: &mut [u8],
     zeros: &mut [u8],
     ones: &mut [u8],
@@ -114,6 +129,7 @@ pub fn garble(
             seed.len(),
             run,
             scheme,
+            mark,
             material.as_mut_ptr(),
             material.len(),
             zeros.as_mut_ptr(),
@@ -183,7 +199,8 @@ pub fn encode(circuit: &[u8], values: &[u8], zeros: &[u8], ones: &[u8], tokens: 
 ///
 /// A garbling is for one evaluation: a second, on another input list, shows R wherever two tokens of a wire differ.
 ///
-/// Material that somebody else made can be well-formed and wrong. No row is checked: a bad one still ends in some token.
+/// Material that somebody else made can be well-formed and wrong. No row is checked: a bad one still ends in some
+/// token, which [`decode`] refuses, with the mark 47 4A, if it is an output's and not one of its two.
 ///
 /// # Errors
 ///
@@ -192,7 +209,7 @@ pub fn encode(circuit: &[u8], values: &[u8], zeros: &[u8], ones: &[u8], tokens: 
 /// ```
 /// # let circuit = [0x43, 0x48, 0, 2, 0, 1, 0, 1, 0x43, 0x47, 0, 1, 0, 2, 8];
 /// # let (mut material, mut zeros, mut ones) = ([0; 48], [0; 48], [0; 32]);
-/// # let _ = weighhare::garble(&circuit, &[7; 16], 0, 3, &mut material, &mut zeros, &mut ones)?;
+/// # let _ = weighhare::garble(&circuit, &[7; 16], 0, 3, 0x4748, &mut material, &mut zeros, &mut ones)?;
 /// // A token for each input, here those for 0 and 0, and half-gates' material of an AND gate.
 /// let mut wires = [0; 48];
 /// let calls = weighhare::evaluate(&circuit, &zeros[..32], &material, &mut wires)?;
@@ -313,22 +330,33 @@ pub fn output_tokens(circuit: &[u8], wires: &[u8], tokens: &mut [u8]) -> Result<
 /// [`evaluate`] wrote. `material` is exactly as long as [`Garbled::length`] says. Writes m bytes to `bits`, each 0 or 1, in the
 /// order of the outputs.
 ///
-/// Any tokens decode. Material that somebody else made can be well-formed and wrong: a flipped byte of its last record
-/// turns a 0 into a 1, and nothing here sees it.
+/// With the mark 47 48 any tokens decode. With 47 4A a token's hash must be one of the two that the material has for
+/// its output: 0 if it is the first, else 1 if it is the second, else refusal 29, at the first such output. So a token
+/// shows that was mistyped, mixed up with another, or came of a damaged row.
+///
+/// Material that somebody else made can be well-formed and wrong, with either mark: a colour flipped, or an output's
+/// two hashes exchanged, turns a 0 into a 1, and nothing here sees it.
+///
+/// No look-up and no branch depends on a token, but for one branch with the mark 47 4A, on whether it refuses with 29:
+/// then it looks for the first. This is tested on the archive and not proved.
 ///
 /// # Errors
 ///
-/// Refusals 1 to 7, 25, 26, 11, 12 to 18, 19.
+/// Refusals 1 to 7, 25, 26, 11, 12 to 18, 19, 29.
 ///
 /// ```
+/// use weighhare::Refusal;
+///
 /// # let circuit = [0x43, 0x48, 0, 2, 0, 1, 0, 1, 0x43, 0x47, 0, 1, 0, 2, 8];
-/// # let (mut material, mut zeros, mut ones) = ([0; 48], [0; 48], [0; 32]);
-/// # let _ = weighhare::garble(&circuit, &[7; 16], 0, 3, &mut material, &mut zeros, &mut ones)?;
-/// // An output's zero token decodes to 0.
+/// # let (mut material, mut zeros, mut ones) = ([0; 79], [0; 48], [0; 32]);
+/// # let _ = weighhare::garble(&circuit, &[7; 16], 0, 3, 0x474A, &mut material, &mut zeros, &mut ones)?;
+/// // An output's zero token decodes to 0. An input's token is none of the output's.
 /// let mut bits = [9];
 /// weighhare::decode(&circuit, &zeros[32..], &material, &mut bits)?;
 /// assert_eq!(bits, [0]);
-/// # Ok::<(), weighhare::Refusal>(())
+/// let refused = weighhare::decode(&circuit, &zeros[..16], &material, &mut bits);
+/// assert_eq!(refused, Err(Refusal::OutputToken { output: 1 }));
+/// # Ok::<(), Refusal>(())
 /// ```
 pub fn decode(circuit: &[u8], tokens: &[u8], material: &[u8], bits: &mut [u8]) -> Result<(), Refusal> {
     let mut answer = [0; 4];

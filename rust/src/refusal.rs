@@ -10,11 +10,13 @@ use std::fmt;
 /// operation skips what it has no argument for. A condition on several lists or buffers is tried in the order of the
 /// arguments.
 ///
-/// No operation gives 22 to 24 yet: they are kept for a reader of circuits that are text.
+/// No operation gives 22 to 24 yet: they are kept for a reader of circuits that are text. Nor 27 and 28, for an
+/// evaluator that is driven as a board.
 ///
-/// A refusal leaves every buffer as it was. Its `Display` says in words what is wrong and where.
+/// A refusal leaves every buffer as it was, but for [30](Self::OutputHashes). Its `Display` says in words what is wrong
+/// and where.
 #[derive(Clone, Copy, Debug, PartialEq, Eq, Hash)]
-#[must_use = "a refused operation wrote nothing"]
+#[must_use = "a refused operation gave nothing"]
 #[non_exhaustive]
 pub enum Refusal {
     /// 1: the circuit has under 8 bytes.
@@ -71,7 +73,7 @@ pub enum Refusal {
         /// The material's length.
         length: usize,
     },
-    /// 13: the material does not begin with the mark 47 48. Its place is 0.
+    /// 13: the mark, the argument or the material's, is not 47 48 or 47 4A. Its place is 0.
     MaterialMark,
     /// 14: the scheme, the argument or the material's, is not 1, 2, 3 or 4.
     Scheme {
@@ -80,7 +82,7 @@ pub enum Refusal {
     },
     /// 15: the material's n, m or q is not the circuit's. Its place is 3.
     MaterialSizes,
-    /// 16: the material's length is not that of its scheme and the circuit.
+    /// 16: the material's length is not that of its mark, its scheme and the circuit.
     MaterialLength {
         /// The material's length.
         length: usize,
@@ -90,7 +92,7 @@ pub enum Refusal {
         /// The wire number due.
         wire: u16,
     },
-    /// 18: the material's last record has a wrong mark or a byte over 1.
+    /// 18: the material's last record has a wrong mark or a colour over 1.
     LastRecord {
         /// Where the record starts.
         start: usize,
@@ -133,10 +135,29 @@ pub enum Refusal {
         /// The output, from 1.
         output: u16,
     },
+    /// 27: the board's command is not 1 to 4.
+    Command {
+        /// The command.
+        command: u8,
+    },
+    /// 28: the board is not loaded, is done, or its next gate is outside n+1 to n+q. Its place is 0.
+    NotReady,
+    /// 29: the hash of an output's token is neither of its two in the material, whose mark is 47 4A
+    /// ([`Mark::Hashes`](crate::Mark::Hashes)).
+    OutputToken {
+        /// The first such output, from 1.
+        output: u16,
+    },
+    /// 30: an output's two hashes are equal, of garble with the mark 47 4A. The one refusal that changes buffers: the
+    /// bytes that garble would have written are zero, all others as they were. No run is known that meets it.
+    OutputHashes {
+        /// The first such output, from 1.
+        output: u16,
+    },
 }
 
 impl Refusal {
-    /// The refusal's number: 1 to 26. Nothing gives 22 to 24 yet.
+    /// The refusal's number: 1 to 30. Nothing gives 22 to 24, 27 and 28 yet.
     ///
     /// ```
     /// assert_eq!(weighhare::Refusal::Code { wire: 3 }.number(), 7);
@@ -145,8 +166,8 @@ impl Refusal {
         self.number_and_place().0
     }
 
-    /// The refusal's place: a length, a wire number, an output's number, an index, an offset, a width or a line, by its
-    /// number.
+    /// The refusal's place: a length, a wire number, an output's number, an index, an offset, a width, a line or a
+    /// command, by its number.
     ///
     /// ```
     /// assert_eq!(weighhare::Refusal::Code { wire: 3 }.place(), 3);
@@ -183,21 +204,26 @@ impl Refusal {
             Self::TextOutput { line } => (24, line),
             Self::OutputMark { output } => (25, output.into()),
             Self::OutputWire { output } => (26, output.into()),
+            Self::Command { command } => (27, command.into()),
+            Self::NotReady => (28, 0),
+            Self::OutputToken { output } => (29, output.into()),
+            Self::OutputHashes { output } => (30, output.into()),
         }
     }
 
-    /// The refusal of that number at that place, if there is one: a wire number and an output's have 16 bits, a scheme 8,
-    /// and 2, 3, 13, 15 and 23 have one place each.
+    /// The refusal of that number at that place, if there is one: a wire number and an output's have 16 bits, a scheme
+    /// and a command 8, and 2, 3, 13, 15, 23 and 28 have one place each.
     ///
     /// ```
     /// use weighhare::Refusal;
     ///
     /// let refusal = Refusal::from_number(7, 3).expect("a refusal");
     /// assert_eq!(refusal.to_string(), "gate 3 has a code that is neither charged nor free");
-    /// assert_eq!(Refusal::from_number(27, 0), None);
+    /// assert_eq!(Refusal::from_number(31, 0), None);
     /// ```
     pub fn from_number(number: u8, place: usize) -> Option<Self> {
         let short = u16::try_from(place).ok();
+        let byte = u8::try_from(place).ok();
         let refusal = match number {
             1 => Self::CircuitShort { length: place },
             2 => Self::CircuitMark,
@@ -212,9 +238,7 @@ impl Refusal {
             11 => Self::TokensLength { length: place },
             12 => Self::MaterialShort { length: place },
             13 => Self::MaterialMark,
-            14 => Self::Scheme {
-                scheme: place.try_into().ok()?,
-            },
+            14 => Self::Scheme { scheme: byte? },
             15 => Self::MaterialSizes,
             16 => Self::MaterialLength { length: place },
             17 => Self::RowRecord { wire: short? },
@@ -227,6 +251,10 @@ impl Refusal {
             24 => Self::TextOutput { line: place },
             25 => Self::OutputMark { output: short? },
             26 => Self::OutputWire { output: short? },
+            27 => Self::Command { command: byte? },
+            28 => Self::NotReady,
+            29 => Self::OutputToken { output: short? },
+            30 => Self::OutputHashes { output: short? },
             _ => return None,
         };
         (refusal.place() == place).then_some(refusal)
@@ -258,7 +286,7 @@ impl fmt::Display for Refusal {
             Self::Value { index } => write!(f, "the value at index {index} is neither 0 nor 1"),
             Self::TokensLength { length } => write!(f, "a token list has the wrong length, {}", Bytes(length)),
             Self::MaterialShort { length } => write!(f, "the material has {}, a header needs 9", Bytes(length)),
-            Self::MaterialMark => write!(f, "the material does not begin with the mark 47 48"),
+            Self::MaterialMark => write!(f, "the mark of the material is neither 47 48 nor 47 4A"),
             Self::Scheme { scheme } => write!(f, "the scheme is {scheme}, it must be 1, 2, 3 or 4"),
             Self::MaterialSizes => write!(f, "the material's n, m or q, at byte 3, is not the circuit's"),
             Self::MaterialLength { length } => write!(f, "the material has {}, {NOT_ITS_LENGTH}", Bytes(length)),
@@ -274,17 +302,27 @@ impl fmt::Display for Refusal {
                 write!(f, "the record of output {output} does not begin with the mark 43 4F")
             }
             Self::OutputWire { output } => write!(f, "the record of output {output} has a wire that is 0 or above n+q"),
+            Self::Command { command } => write!(f, "the board's command is {command}, it must be 1 to 4"),
+            Self::NotReady => write!(
+                f,
+                "the board is not loaded, is done, or its next gate is outside n+1 to n+q"
+            ),
+            Self::OutputToken { output } => write!(f, "the token of output {output} {NEITHER}"),
+            Self::OutputHashes { output } => write!(f, "the two hashes of output {output} are equal: {GARBLE_ANEW}"),
         }
     }
 }
 
 const LIMITS: &str = "n from 2 to 4096, m from 1 to q, or to n+q with the mark 43 49, q at least 1, n+q at most 65535";
 const NOT_WHOLE: &str = "not 8 and 7 for each gate, and with the mark 43 49 another 4 for each output";
-const NOT_ITS_LENGTH: &str = "which is not the length for its scheme and the circuit";
-const NOT_LAST: &str = "has a wrong mark or a byte over 1";
+const NOT_ITS_LENGTH: &str = "which is not the length for its mark, its scheme and the circuit";
+const NOT_LAST: &str = "has a wrong mark or a colour over 1";
 const NOT_A_LINE: &str = "is not of its form, is missing or lacks its line feed";
 const COUNTS: &str = "as many gates as gate lines, as many wires as inputs and gates";
 const NOT_NEXT: &str = "has an output that is not the next wire";
+const NEITHER: &str = "has neither of its hashes in the material: \
+                       something is mistyped, mixed up, damaged or of another garbling";
+const GARBLE_ANEW: &str = "garble with another seed or run number";
 
 impl Error for Refusal {}
 
@@ -293,7 +331,7 @@ mod tests {
     use super::Refusal;
 
     /// What is said of each refusal, by its number, at a place that it can have.
-    const SAID: [(u8, usize, &str); 26] = [
+    const SAID: [(u8, usize, &str); 30] = [
         (1, 7, "the circuit has 7 bytes, a header needs 8"),
         (2, 0, "the circuit does not begin with the mark 43 48 or 43 49"),
         (
@@ -315,16 +353,20 @@ mod tests {
         (10, 1, "the value at index 1 is neither 0 nor 1"),
         (11, 31, "a token list has the wrong length, 31 bytes"),
         (12, 8, "the material has 8 bytes, a header needs 9"),
-        (13, 0, "the material does not begin with the mark 47 48"),
+        (13, 0, "the mark of the material is neither 47 48 nor 47 4A"),
         (14, 5, "the scheme is 5, it must be 1, 2, 3 or 4"),
         (15, 3, "the material's n, m or q, at byte 3, is not the circuit's"),
         (
             16,
             79,
-            "the material has 79 bytes, which is not the length for its scheme and the circuit",
+            "the material has 79 bytes, which is not the length for its mark, its scheme and the circuit",
         ),
         (17, 3, "the row record due for wire 3 has a wrong mark or wire number"),
-        (18, 77, "the last record, at byte 77, has a wrong mark or a byte over 1"),
+        (
+            18,
+            77,
+            "the last record, at byte 77, has a wrong mark or a colour over 1",
+        ),
         (19, 48, "an output buffer is too short, it needs 48 bytes"),
         (20, 0, "wire 0 is not in the token lists"),
         (21, 65, "the width is 65, it must be 1 to 64"),
@@ -346,6 +388,23 @@ mod tests {
         ),
         (25, 2, "the record of output 2 does not begin with the mark 43 4F"),
         (26, 3, "the record of output 3 has a wire that is 0 or above n+q"),
+        (27, 5, "the board's command is 5, it must be 1 to 4"),
+        (
+            28,
+            0,
+            "the board is not loaded, is done, or its next gate is outside n+1 to n+q",
+        ),
+        (
+            29,
+            2,
+            "the token of output 2 has neither of its hashes in the material: \
+             something is mistyped, mixed up, damaged or of another garbling",
+        ),
+        (
+            30,
+            3,
+            "the two hashes of output 3 are equal: garble with another seed or run number",
+        ),
     ];
 
     #[test]
@@ -371,16 +430,22 @@ mod tests {
                 assert_eq!(Refusal::from_number(number, place), None, "{number} is none");
             }
         }
-        for (number, place) in [(2, 1), (3, 0), (13, 1), (15, 2), (23, 0), (23, 2)] {
+        for (number, place) in [(2, 1), (3, 0), (13, 1), (15, 2), (23, 0), (23, 2), (28, 1)] {
             assert_eq!(Refusal::from_number(number, place), None, "{number} has one place");
         }
         for number in [5, 6, 7, 17, 20] {
             assert_eq!(Refusal::from_number(number, 65_536), None, "a wire has 16 bits");
         }
-        for number in [25, 26] {
+        for number in [25, 26, 29, 30] {
             assert_eq!(Refusal::from_number(number, 65_536), None, "an output has 16 bits");
         }
-        assert_eq!(Refusal::from_number(14, 256), None, "a scheme has 8 bits");
+        for number in [14, 27] {
+            assert_eq!(
+                Refusal::from_number(number, 256),
+                None,
+                "a scheme and a command have 8 bits"
+            );
+        }
         for width in [0, usize::MAX] {
             let refusal = Refusal::from_number(21, width);
             assert_eq!(refusal, Some(Refusal::Width { width }), "every width has a place");

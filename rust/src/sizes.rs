@@ -1,6 +1,6 @@
 //! A circuit's sizes, and the lengths that come of them.
 
-use crate::Scheme;
+use crate::{Mark, Scheme};
 
 /// The bytes of a token.
 const TOKEN: usize = 16;
@@ -76,7 +76,8 @@ impl Sizes {
         self.m.saturating_mul(TOKEN)
     }
 
-    /// The bytes of the material under a scheme, 11+m+p(4+16r), where r is the scheme's [rows](Scheme::rows).
+    /// The bytes of the material of mark 47 48 under a scheme, 11+m+p(4+16r), where r is the scheme's
+    /// [rows](Scheme::rows).
     ///
     /// ```
     /// use weighhare::Scheme;
@@ -87,8 +88,29 @@ impl Sizes {
     /// ```
     #[must_use]
     pub fn material_length(self, scheme: Scheme) -> usize {
-        let record = 4 + TOKEN * scheme.rows();
-        self.p.saturating_mul(record).saturating_add(self.m).saturating_add(11)
+        self.length_with(Mark::Colours, scheme)
+    }
+
+    /// The bytes of the material of mark 47 4A under a scheme, 11+32m+p(4+16r), where r is the scheme's
+    /// [rows](Scheme::rows).
+    ///
+    /// ```
+    /// use weighhare::Scheme;
+    ///
+    /// let sizes = weighhare::Circuit::comparator(8)?.sizes();
+    /// assert_eq!(Scheme::ALL.map(|scheme| sizes.hashed_material_length(scheme)), [587, 459, 331, 331]);
+    /// # Ok::<(), weighhare::Refusal>(())
+    /// ```
+    #[must_use]
+    pub fn hashed_material_length(self, scheme: Scheme) -> usize {
+        self.length_with(Mark::Hashes, scheme)
+    }
+
+    /// The bytes of the material: its header and its last record's mark, the records of the charged gates, the outputs.
+    pub(crate) fn length_with(self, mark: Mark, scheme: Scheme) -> usize {
+        let records = self.p.saturating_mul(4 + TOKEN * scheme.rows());
+        let outputs = self.m.saturating_mul(mark.output_length());
+        records.saturating_add(outputs).saturating_add(11)
     }
 }
 

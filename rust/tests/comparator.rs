@@ -72,7 +72,16 @@ fn garbled_bit(circuit: &[u8], values: &[u8], run: u64, scheme: u8) -> u8 {
         vec![0; 16 * (n + q)],
         vec![0; 16 * n],
     );
-    let garbled = weighhare::garble(circuit, &SEED, run, scheme, &mut material, &mut zeros, &mut ones);
+    let garbled = weighhare::garble(
+        circuit,
+        &SEED,
+        run,
+        scheme,
+        0x4748,
+        &mut material,
+        &mut zeros,
+        &mut ones,
+    );
     assert_eq!(garbled.expect("garbled").length, material.len());
     let (mut inputs, mut wires, mut output, mut bits) = (vec![0; 16 * n], vec![0; 16 * (n + q)], [0; 16], [FILL]);
     weighhare::encode(circuit, values, &zeros[..16 * n], &ones, &mut inputs).expect("encoded");

@@ -1,6 +1,6 @@
 //! The layer that allocates gives what the functions on slices give, and what is secret does not show.
 
-use weighhare::{figures_to_values, Circuit, Refusal, Scheme, Secret, Seed, Sizes};
+use weighhare::{figures_to_values, Circuit, Garbling, Mark, Refusal, Scheme, Secret, Seed, Sizes};
 
 /// Wire 3 is wire 1 AND wire 2.
 const AND: [u8; 15] = [0x43, 0x48, 0, 2, 0, 1, 0, 1, 0x43, 0x47, 0, 1, 0, 2, 8];
@@ -36,30 +36,50 @@ fn values(sizes: Sizes, which: usize) -> Vec<u8> {
         .collect()
 }
 
+/// The layer's garbling with a mark.
+fn garbling(circuit: &Circuit, run: u64, scheme: Scheme, mark: Mark) -> Garbling {
+    match mark {
+        Mark::Hashes => circuit.garble_hashed(&seed(), run, scheme).expect("garbled"),
+        _ => circuit.garble(&seed(), run, scheme),
+    }
+}
+
+/// Each scheme with each mark.
+fn kinds() -> impl Iterator<Item = (Scheme, Mark)> {
+    let schemes = Scheme::ALL.into_iter();
+    schemes.flat_map(|scheme| Mark::ALL.map(|mark| (scheme, mark)))
+}
+
+/// That the layer's garbling is what the function on slices writes, in buffers of the lengths that are defined.
+fn is_what_garble_writes(circuit: &Circuit, run: u64, scheme: Scheme, mark: Mark) {
+    let garbling = garbling(circuit, run, scheme, mark);
+    let sizes = weighhare::check(circuit.bytes()).expect("accepted");
+    let outputs = if mark == Mark::Hashes { 32 * sizes.m } else { sizes.m };
+    let mut material = vec![0; 11 + outputs + sizes.p * (4 + 16 * [4, 3, 2, 2][scheme as usize - 1])];
+    let (mut zeros, mut ones) = (vec![0; 16 * (sizes.n + sizes.q)], vec![0; 16 * sizes.n]);
+    let garbled = weighhare::garble(
+        circuit.bytes(),
+        &SEED,
+        run,
+        scheme as u8,
+        mark as u16,
+        &mut material,
+        &mut zeros,
+        &mut ones,
+    )
+    .expect("garbled");
+    assert_eq!(garbling.material(), material);
+    assert_eq!((garbling.zeros(), garbling.ones()), (&zeros[..], &ones[..]));
+    assert_eq!(garbling.input_zeros(), &zeros[..16 * sizes.n]);
+    assert_eq!((garbling.calls(), garbled.length), (garbled.calls, material.len()));
+}
+
 #[test]
 fn a_garbling_is_what_garble_writes() {
     for circuit in circuits() {
-        for scheme in Scheme::ALL {
+        for (scheme, mark) in kinds() {
             for run in [0, 1, u64::MAX] {
-                let garbling = circuit.garble(&seed(), run, scheme);
-                let sizes = weighhare::check(circuit.bytes()).expect("accepted");
-                let mut material = vec![0; 11 + sizes.m + sizes.p * (4 + 16 * [4, 3, 2, 2][scheme as usize - 1])];
-                let (mut zeros, mut ones) = (vec![0; 16 * (sizes.n + sizes.q)], vec![0; 16 * sizes.n]);
-                let number = scheme as u8;
-                let garbled = weighhare::garble(
-                    circuit.bytes(),
-                    &SEED,
-                    run,
-                    number,
-                    &mut material,
-                    &mut zeros,
-                    &mut ones,
-                )
-                .expect("garbled");
-                assert_eq!(garbling.material(), material);
-                assert_eq!((garbling.zeros(), garbling.ones()), (&zeros[..], &ones[..]));
-                assert_eq!(garbling.input_zeros(), &zeros[..16 * sizes.n]);
-                assert_eq!((garbling.calls(), garbled.length), (garbled.calls, material.len()));
+                is_what_garble_writes(&circuit, run, scheme, mark);
             }
         }
     }
@@ -68,10 +88,10 @@ fn a_garbling_is_what_garble_writes() {
 #[test]
 fn the_chain_gives_the_plain_bits() {
     for circuit in circuits() {
-        for scheme in Scheme::ALL {
+        for (scheme, mark) in kinds() {
             for which in 0..4 {
                 let values = values(circuit.sizes(), which);
-                let garbling = circuit.garble(&seed(), which as u64, scheme);
+                let garbling = garbling(&circuit, which as u64, scheme, mark);
                 let tokens = circuit
                     .encode(&values, garbling.input_zeros(), garbling.ones())
                     .expect("encoded");
@@ -185,6 +205,9 @@ fn refusals() {
     assert_eq!(garbling.pick(1, 2), Err(Refusal::Value { index: 0 }));
     for scheme in (0..=255).filter(|number| !(1..=4).contains(number)) {
         assert_eq!(Scheme::try_from(scheme), Err(Refusal::Scheme { scheme }));
+    }
+    for mark in (0..=u16::MAX).filter(|mark| ![0x4748, 0x474A].contains(mark)) {
+        assert_eq!(Mark::try_from(mark), Err(Refusal::MaterialMark));
     }
     for length in [0, 15, 17, 32] {
         assert_eq!(

@@ -1,15 +1,26 @@
 //! The lengths that the crate and the C header say are those that the library asks for.
 
-use weighhare::{Circuit, Refusal, Scheme, Seed, Sizes};
+use weighhare::{Circuit, Mark, Refusal, Scheme, Seed, Sizes};
+
+/// The length that the crate says of material with a mark.
+fn material_length(sizes: Sizes, scheme: Scheme, mark: Mark) -> usize {
+    match mark {
+        Mark::Hashes => sizes.hashed_material_length(scheme),
+        _ => sizes.material_length(scheme),
+    }
+}
 
 /// A buffer that is a byte short is refusal 19, with the bytes needed.
 #[test]
 fn a_byte_less_is_too_short() {
     let circuit = Circuit::comparator(9).expect("a width");
     let (sizes, bytes, seed) = (circuit.sizes(), circuit.bytes(), [7; 16]);
-    for scheme in Scheme::ALL {
+    for (scheme, mark) in Scheme::ALL
+        .into_iter()
+        .flat_map(|scheme| Mark::ALL.map(|mark| (scheme, mark)))
+    {
         let lengths = [
-            sizes.material_length(scheme),
+            material_length(sizes, scheme, mark),
             sizes.wire_tokens_length(),
             sizes.input_tokens_length(),
         ];
@@ -17,7 +28,7 @@ fn a_byte_less_is_too_short() {
             let mut buffers = lengths.map(|length| vec![0; length]);
             buffers[short].pop();
             let [material, zeros, ones] = &mut buffers;
-            let refused = weighhare::garble(bytes, &seed, 0, scheme.number(), material, zeros, ones);
+            let refused = weighhare::garble(bytes, &seed, 0, scheme.number(), mark.number(), material, zeros, ones);
             assert_eq!(refused, Err(Refusal::Room { needed: lengths[short] }));
         }
     }
@@ -46,6 +57,8 @@ fn they_are_enough() {
         for scheme in Scheme::ALL {
             let garbling = circuit.garble(&seed, width as u64, scheme);
             assert_eq!(garbling.material().len(), circuit.sizes().material_length(scheme));
+            let hashed = circuit.garble_hashed(&seed, width as u64, scheme).expect("garbled");
+            assert_eq!(hashed.material().len(), circuit.sizes().hashed_material_length(scheme));
         }
     }
     for width in [0, 65, usize::MAX] {
@@ -68,4 +81,5 @@ fn sizes_that_no_circuit_has() {
     assert_eq!(sizes.input_tokens_length(), largest);
     assert_eq!(sizes.output_tokens_length(), largest);
     assert_eq!(sizes.material_length(Scheme::Gax), largest);
+    assert_eq!(sizes.hashed_material_length(Scheme::Gax), largest);
 }

@@ -2,7 +2,7 @@
 
 mod common;
 
-use common::{garbling, Garbling, AND, FILL, GATES, SEED};
+use common::{garbling, Garbling, AND, COLOURS, FILL, GATES, SEED};
 use weighhare::{Refusal, Sizes};
 
 /// The AND gate with outputs by name: wire 3, wire 1, which is an input, and wire 3 again.
@@ -83,7 +83,7 @@ fn of_the_sizes() {
 fn decoded_bits_are_in_the_order_of_the_outputs() {
     for (scheme, length) in [(1, 82), (2, 66), (3, 50), (4, 50)] {
         let (mut material, mut zeros, mut ones) = (vec![FILL; length], [FILL; 48], [FILL; 32]);
-        let garbled = weighhare::garble(&NAMED, &SEED, 0, scheme, &mut material, &mut zeros, &mut ones);
+        let garbled = weighhare::garble(&NAMED, &SEED, 0, scheme, COLOURS, &mut material, &mut zeros, &mut ones);
         assert_eq!(garbled.expect("garbled").length, length);
         let colours = [zeros[47] & 1, zeros[15] & 1, zeros[47] & 1];
         assert_eq!(material[length - 3..], colours, "of the outputs' zero tokens");
@@ -131,7 +131,16 @@ fn the_old_mark_stands_for_the_last_wires() {
     for scheme in 1..=4 {
         let Garbling { material, zeros, ones } = garbling(scheme);
         let (mut named, mut named_zeros, mut named_ones) = (vec![FILL; material.len()], [FILL; 48], [FILL; 32]);
-        let garbled = weighhare::garble(&LAST, &SEED, 0, scheme, &mut named, &mut named_zeros, &mut named_ones);
+        let garbled = weighhare::garble(
+            &LAST,
+            &SEED,
+            0,
+            scheme,
+            COLOURS,
+            &mut named,
+            &mut named_zeros,
+            &mut named_ones,
+        );
         assert_eq!(garbled.expect("garbled").length, material.len());
         assert_eq!((&named, named_zeros, named_ones), (&material, zeros, ones));
         let mut held = [[FILL; 48]; 2];

@@ -47,7 +47,16 @@ fn plain_negates_and_copies() {
 fn a_garbling_negates_and_copies() {
     for scheme in 1..=4 {
         let (mut material, mut zeros, mut ones) = ([0; 16], [0; 7 * 16], [0; 2 * 16]);
-        let garbled = weighhare::garble(&CIRCUIT, &[7; 16], 0, scheme, &mut material, &mut zeros, &mut ones);
+        let garbled = weighhare::garble(
+            &CIRCUIT,
+            &[7; 16],
+            0,
+            scheme,
+            0x4748,
+            &mut material,
+            &mut zeros,
+            &mut ones,
+        );
         let garbled = garbled.expect("garbled");
         assert_eq!((garbled.length, garbled.calls), (16, 0), "no rows, and no calls");
         for (u, v) in [(0, 0), (0, 1), (1, 0), (1, 1)] {

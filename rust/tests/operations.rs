@@ -2,7 +2,7 @@
 
 mod common;
 
-use common::{garbling, Garbling, AND, FILL, GATES, SEED};
+use common::{garbling, Garbling, AND, COLOURS, FILL, GATES, SEED};
 use weighhare::Sizes;
 
 /// The bytes of the circuit that has the gates `GATES`: 3 inputs, 2 outputs, 3 gates.
@@ -34,7 +34,8 @@ fn garble_leaves_what_is_past_its_bytes() {
     for scheme in 1..=4 {
         let exact = garbling(scheme);
         let (mut material, mut zeros, mut ones) = ([FILL; 100], [FILL; 100], [FILL; 100]);
-        let garbled = weighhare::garble(&AND, &SEED, 0, scheme, &mut material, &mut zeros, &mut ones).expect("garbled");
+        let garbled =
+            weighhare::garble(&AND, &SEED, 0, scheme, COLOURS, &mut material, &mut zeros, &mut ones).expect("garbled");
         assert_eq!(&material[..garbled.length], exact.material);
         assert_eq!(zeros[..48], exact.zeros);
         assert_eq!(ones[..32], exact.ones);
@@ -81,8 +82,8 @@ fn evaluate_and_decode_give_the_plain_bit() {
 fn evaluate_gates_answers_as_evaluate_does_to_the_bytes() {
     for (scheme, rows, calls) in [(1, 4, 2), (2, 3, 2), (3, 2, 4), (4, 2, 4)] {
         let (mut material, mut zeros, mut ones) = (vec![0; 13 + 2 * (4 + 16 * rows)], [0; 96], [0; 48]);
-        let garbled =
-            weighhare::garble(&THREE, &SEED, 0, scheme, &mut material, &mut zeros, &mut ones).expect("garbled");
+        let garbled = weighhare::garble(&THREE, &SEED, 0, scheme, COLOURS, &mut material, &mut zeros, &mut ones)
+            .expect("garbled");
         assert_eq!(garbled.length, material.len());
         for values in 0..8 {
             let values = [values >> 2, values >> 1 & 1, values & 1];

@@ -1,8 +1,10 @@
-//! Each refusal, by an operation that gives it; and the buffers, which it leaves as they were.
+//! Each refusal, by an operation that gives it; and the buffers, which it leaves as they were. 21 is met in
+//! `comparator.rs`, 25 and 26 in `named.rs`, 29 in `hashed.rs`. Left out are 22, 23, 24, 27 and 28, which nothing gives
+//! yet, and 30, for which two hashes would have to be equal: no run can meet it.
 
 mod common;
 
-use common::{garbling, Garbling, AND, FILL, GATES, SEED};
+use common::{garbling, Garbling, AND, COLOURS, FILL, GATES, HASHES, SEED};
 use weighhare::{Gate, Refusal};
 
 /// The AND gate with one byte changed.
@@ -77,12 +79,17 @@ fn of_the_lists_handed_in() {
     assert_eq!(bits, [FILL], "untouched");
 }
 
-/// Garble's refusal of a seed, a scheme and buffers of these lengths, which is the same in every run. The buffers are seen to
-/// be as they were.
+/// Garble's refusal of a seed, a scheme and buffers of these lengths, with the mark 47 48.
 fn garble_refusal(seed: &[u8], scheme: u8, lengths: [usize; 3]) -> Option<Refusal> {
+    refusal_with_mark(seed, scheme, COLOURS, lengths)
+}
+
+/// Garble's refusal, which is the same in every run. The buffers are seen to be as they were: refusal 30, which alone
+/// changes them, no run can meet.
+fn refusal_with_mark(seed: &[u8], scheme: u8, mark: u16, lengths: [usize; 3]) -> Option<Refusal> {
     let in_run = |run: u64| {
         let [mut material, mut zeros, mut ones] = lengths.map(|length| vec![FILL; length]);
-        let refusal = weighhare::garble(&AND, seed, run, scheme, &mut material, &mut zeros, &mut ones).err();
+        let refusal = weighhare::garble(&AND, seed, run, scheme, mark, &mut material, &mut zeros, &mut ones).err();
         for buffer in [material, zeros, ones] {
             assert!(buffer.iter().all(|byte| *byte == FILL), "untouched");
         }
@@ -111,6 +118,36 @@ fn of_garble() {
     assert_eq!(garble(&SEED, 4, [47, 48, 32]), Some(Refusal::Room { needed: 48 }));
 }
 
+/// In the order 8, 13, 14, 19.
+#[test]
+fn of_garble_by_its_mark() {
+    let garble = refusal_with_mark;
+    for mark in [0, 0x4747, 0x4749, 0x474B, 0x4848, 0x4847, 0x4A47, 0xFFFF] {
+        assert_eq!(garble(&SEED, 1, mark, [80, 48, 32]), Some(Refusal::MaterialMark));
+        assert_eq!(
+            garble(&SEED, 5, mark, [0, 0, 0]),
+            Some(Refusal::MaterialMark),
+            "13 before 14"
+        );
+        let seed = garble(&SEED[1..], 5, mark, [0, 0, 0]);
+        assert_eq!(seed, Some(Refusal::SeedLength { length: 15 }), "8 before 13");
+    }
+    for scheme in [0, 5, 255] {
+        assert_eq!(
+            garble(&SEED, scheme, HASHES, [0, 0, 0]),
+            Some(Refusal::Scheme { scheme })
+        );
+    }
+    for (scheme, needed) in [(1, 111), (2, 95), (3, 79), (4, 79)] {
+        let short = garble(&SEED, scheme, HASHES, [needed - 1, 47, 31]);
+        assert_eq!(short, Some(Refusal::Room { needed }));
+        let zeros = garble(&SEED, scheme, HASHES, [needed, 47, 31]);
+        assert_eq!(zeros, Some(Refusal::Room { needed: 48 }));
+        let ones = garble(&SEED, scheme, HASHES, [needed, 48, 31]);
+        assert_eq!(ones, Some(Refusal::Room { needed: 32 }));
+    }
+}
+
 #[test]
 fn of_the_material() {
     let Garbling { material, ones, .. } = garbling(1);
@@ -119,7 +156,14 @@ fn of_the_material() {
         evaluate_refusal(&ones, &material[..8]),
         Some(Refusal::MaterialShort { length: 8 })
     );
-    assert_eq!(material_with(1, 0x47), Some(Refusal::MaterialMark));
+    for byte in [0x47, 0x49, 0x4B] {
+        assert_eq!(material_with(1, byte), Some(Refusal::MaterialMark));
+    }
+    assert_eq!(
+        material_with(1, 0x4A),
+        Some(Refusal::MaterialLength { length: 80 }),
+        "the other mark has another length"
+    );
     for scheme in [0, 5, 255] {
         assert_eq!(material_with(2, scheme), Some(Refusal::Scheme { scheme }));
     }

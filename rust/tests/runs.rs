@@ -16,7 +16,8 @@ struct Garbling {
 /// The garbling of a run, always from the same seed.
 fn garbling(run: u64) -> Garbling {
     let (mut material, mut zeros, mut ones) = ([0; 48], [0; 48], [0; 32]);
-    let garbled = weighhare::garble(&AND, &[7; 16], run, 3, &mut material, &mut zeros, &mut ones).expect("garbled");
+    let garbled =
+        weighhare::garble(&AND, &[7; 16], run, 3, 0x4748, &mut material, &mut zeros, &mut ones).expect("garbled");
     assert_eq!((garbled.length, garbled.calls), (48, 4), "run {run}");
     Garbling { material, zeros, ones }
 }

@@ -9,11 +9,11 @@
 
 struct outcome try_evaluate(const struct circuit *c, uint8_t scheme)
 {
-    struct outcome o = {0, NULL};
+    struct outcome o = {0, 0, NULL};
     uint8_t seed[16];
     uint64_t answer[4];
     write_seed(seed);
-    struct garbling g = make_garbling(c, scheme, seed, 0);
+    struct garbling g = make_garbling(c, scheme, WEIGHHARE_COLOURS, seed, 0);
     size_t inputs = g.ones_length, wires = g.zeros_length;
     uint8_t *tokens = make_room(inputs), *plain = make_room(wires), *marked = make_room(wires);
     memcpy(tokens, g.zeros, inputs);
@@ -53,7 +53,7 @@ static __attribute__((noinline)) void branch(const uint8_t *byte)
 struct outcome try_look_up(void)
 {
     static uint8_t table[256];
-    struct outcome o = {0, NULL};
+    struct outcome o = {0, 0, NULL};
     uint8_t byte = 0x80;
     mark_secret(&byte, 1);
     unsigned long before = complaints();
@@ -64,7 +64,7 @@ struct outcome try_look_up(void)
 
 struct outcome try_branch(void)
 {
-    struct outcome o = {0, NULL};
+    struct outcome o = {0, 0, NULL};
     uint8_t byte = 1;
     mark_bits(&byte, 1);
     unsigned long before = complaints();

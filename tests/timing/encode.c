@@ -52,7 +52,7 @@ static void encode_marked(const struct circuit *c, struct encoding *e, struct ou
     mark_secret(e->ones, 16 * e->n);
     unsigned long before = complaints();
     encode(c, e);
-    o->complaints += complaints() - before;
+    count(o, complaints() - before, 0);
     expect(o, is_public(&e->number, 1) && is_public(e->answer, sizeof e->answer), "the answer depends on a secret");
     mark_public(&e->number, 1);
     mark_public(e->answer, sizeof e->answer);
@@ -60,7 +60,7 @@ static void encode_marked(const struct circuit *c, struct encoding *e, struct ou
 
 struct outcome try_encode(const struct circuit *c)
 {
-    struct outcome o = {0, NULL};
+    struct outcome o = {0, 0, NULL};
     struct encoding plain = make_encoding(c), marked = make_encoding(c);
     encode(c, &plain);
     encode_marked(c, &marked, &o);
@@ -86,7 +86,7 @@ static void pick(uint16_t wire, uint8_t bit, struct outcome *o)
     mark_secret(ones, sizeof ones);
     unsigned long before = complaints();
     uint8_t number = weighhare_pick(zeros, sizeof zeros, ones, sizeof ones, wire, bit, answer);
-    o->complaints += complaints() - before;
+    count(o, complaints() - before, 0);
     expect(o, is_public(&number, 1) && is_public(answer, sizeof answer), "the answer depends on a token");
     mark_public(&number, 1);
     mark_public(answer, sizeof answer);
@@ -96,7 +96,7 @@ static void pick(uint16_t wire, uint8_t bit, struct outcome *o)
 
 struct outcome try_pick(void)
 {
-    struct outcome o = {0, NULL};
+    struct outcome o = {0, 0, NULL};
     for (uint16_t wire = 1; wire <= 4; wire++) {
         pick(wire, 0, &o);
         pick(wire, 1, &o);

@@ -4,6 +4,7 @@
 #include "garbling.h"
 #include "marks.h"
 #include "trials.h"
+#include "weighhare.h"
 
 /* What everybody may know: whether it refused, and lengths and counts; what depends on the seed: every byte of a token. */
 static void expect_marks(struct outcome *o, const struct garbling *g)
@@ -28,18 +29,19 @@ static void expect_same(struct outcome *o, const struct garbling *plain, struct 
            "it writes something else than without marks");
 }
 
-struct outcome try_garble(const struct circuit *c, uint8_t scheme)
+struct outcome try_garble(const struct circuit *c, uint8_t scheme, uint16_t mark)
 {
     static const uint64_t runs[] = {0, 1, 65535, UINT64_MAX};
-    struct outcome o = {0, NULL};
+    struct outcome o = {0, 0, NULL};
     for (size_t i = 0; i < sizeof runs / sizeof runs[0]; i++) {
         uint8_t seed[16];
         write_seed(seed);
-        struct garbling plain = make_garbling(c, scheme, seed, runs[i]);
+        struct garbling plain = make_garbling(c, scheme, mark, seed, runs[i]);
         mark_secret(seed, sizeof seed);
         unsigned long before = complaints();
-        struct garbling marked = make_garbling(c, scheme, seed, runs[i]);
-        o.complaints += complaints() - before;
+        struct garbling marked = make_garbling(c, scheme, mark, seed, runs[i]);
+        /* With hashes one branch: whether two of them are equal, which is refusal 30. */
+        count(&o, complaints() - before, mark == WEIGHHARE_HASHES);
         expect_marks(&o, &marked);
         expect_same(&o, &plain, &marked);
         free_garbling(&plain);

@@ -12,8 +12,9 @@ struct garbling {
     uint8_t *material, *zeros, *ones;
 };
 
-/* Garbles by a scheme; the seed may be marked. */
-struct garbling make_garbling(const struct circuit *c, uint8_t scheme, const uint8_t seed[16], uint64_t run);
+/* Garbles by a scheme, to material of a mark; the seed may be marked. */
+struct garbling make_garbling(const struct circuit *c, uint8_t scheme, uint16_t mark, const uint8_t seed[16],
+                              uint64_t run);
 
 void free_garbling(struct garbling *g);
 

@@ -3,6 +3,7 @@
 
 #include "marks.h"
 #include "trials.h"
+#include "weighhare.h"
 
 static void controls(void)
 {
@@ -20,10 +21,14 @@ static void controls(void)
 
 static void cases(const struct circuit *c)
 {
+    static const uint16_t marks[2] = {WEIGHHARE_COLOURS, WEIGHHARE_HASHES};
     struct outcome o;
-    for (uint8_t scheme = 1; scheme <= 4; scheme++) {
-        o = try_garble(c, scheme);
-        report_case(&o, "garble, scheme %d, %s", scheme, c->name);
+    for (int i = 0; i < 8; i++) {
+        uint8_t scheme = (uint8_t)(1 + i % 4);
+        o = try_garble(c, scheme, marks[i / 4]);
+        report_case(&o, "garble, scheme %d, mark %04X, %s", scheme, marks[i / 4], c->name);
+        o = try_decode(c, scheme, marks[i / 4]);
+        report_case(&o, "decode, scheme %d, mark %04X, %s", scheme, marks[i / 4], c->name);
     }
     o = try_encode(c);
     report_case(&o, "encode, %s", c->name);

@@ -5,8 +5,11 @@
 #include "circuits.h"
 #include "report.h"
 
-/* Garble with a secret seed, in several runs. */
-struct outcome try_garble(const struct circuit *c, uint8_t scheme);
+/* Garble with a secret seed, in several runs, to material of a mark. */
+struct outcome try_garble(const struct circuit *c, uint8_t scheme, uint16_t mark);
+
+/* Decode with secret tokens, of which each is one of its output's, by material of a mark. */
+struct outcome try_decode(const struct circuit *c, uint8_t scheme, uint16_t mark);
 
 /* Encode with secret tokens and secret values. */
 struct outcome try_encode(const struct circuit *c);

@@ -52,6 +52,7 @@ impl Subject {
             &self.seed,
             0,
             scheme,
+            weighhare::Mark::Colours.number(),
             &mut self.material,
             &mut self.zeros,
             &mut self.ones,

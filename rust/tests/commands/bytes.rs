@@ -10,13 +10,18 @@ use crate::program::world::World;
 /// The outputs by name: wire 3, which is wire 1 AND wire 2, wire 1, and wire 3 again.
 const NAMED: &[u8] = include_bytes!("../../../examples/named-outputs.circuit");
 
-/// Exchanges of every scheme, of the smallest width, the largest, and two between, with both answers.
-fn worlds() -> [World; 4] {
+/// Exchanges of every scheme, of the smallest width, the largest, and two between, with both answers; and with hashes
+/// in the material, by every scheme too.
+fn worlds() -> [World; 8] {
     [
         World::new(1, [1, 0], due::SEED, 0, 1),
         World::new(8, [120, 150], due::SEED, 1, 2),
         World::new(33, [1 << 32, (1 << 32) - 1], due::SEED, u64::MAX, 3),
         World::new(64, [u64::MAX - 1, u64::MAX], due::SEED, 77, 4),
+        World::hashed(1, [0, 1], due::SEED, 2, 1),
+        World::hashed(7, [100, 99], due::SEED, 3, 2),
+        World::hashed(8, [120, 150], due::SEED, 0, 3),
+        World::hashed(9, [511, 510], due::SEED, 5, 4),
     ]
 }
 

@@ -149,6 +149,8 @@ fn seeds_and_schemes() {
             let due = due::garble(circuit, &seed, 0, scheme).err().expect("refused");
             let word = scheme.to_string();
             is_refused(&folder, &[&GARBLE[..], &["--scheme", &word]].concat(), due, (8, length));
+            let hashed = [&GARBLE[..], &["--hashed", "--scheme", &word]].concat();
+            is_refused(&folder, &hashed, due, (8, length));
             let compare = ["compare", "1", "2", "--bits", "8", "--seed", "seed", "--scheme", &word];
             is_refused(&folder, &compare, due, (8, length));
         }
@@ -317,6 +319,47 @@ fn tokens_and_material() {
     for length in [0, 15, 17, 32] {
         let change = [("outputs", vec![0; length])];
         refuses(&world, "decode", &[(&change, (11, length))], decode);
+    }
+}
+
+/// Material of mark 47 4A of the same circuit, 331 bytes: its length and its last record's mark go by its own mark.
+#[test]
+fn material_with_hashes() {
+    let world = World::hashed(8, [120, 150], due::SEED, 0, 3);
+    let right = world.file("material");
+    let cases = [
+        (with(right, 1, &[0x4B]), (13, 0)),
+        (with(right, 1, &[0x48]), (16, 331)),
+        (resized(right, -31), (16, 300)),
+        (with(right, 9, &[0]), (17, 17)),
+        (with(right, 298, &[0x44]), (18, 297)),
+    ];
+    for (material, at) in cases {
+        let change = [("material", material)];
+        refuses(&world, "evaluate", &[(&change, at)], |file| {
+            due::evaluate(&file("circuit"), &file("tokens"), &file("material")).err()
+        });
+        refuses(&world, "decode", &[(&change, at)], |file| {
+            due::decode(&file("circuit"), &file("outputs"), &file("material")).err()
+        });
+    }
+}
+
+/// A token that is none of its output's two: mistyped, and another wire's. The message says which output, and what it
+/// may mean.
+#[test]
+fn an_output_token_that_the_material_does_not_know() {
+    let world = World::hashed(8, [120, 150], due::SEED, 0, 3);
+    let right = world.file("outputs");
+    let said = "refused 29 1: the token of output 1 has neither of its hashes in the material: \
+                something is mistyped, mixed up, damaged or of another garbling\n";
+    for tokens in [with(right, 7, &[!right[7]]), world.file("first-zero").to_vec()] {
+        let change = [("outputs", tokens)];
+        refuses(&world, "decode", &[(&change, (29, 1))], |file| {
+            let refusal = due::decode(&file("circuit"), &file("outputs"), &file("material")).err();
+            assert_eq!(refusal.map(due::said).as_deref(), Some(said));
+            refusal
+        });
     }
 }
 

@@ -7,9 +7,10 @@ use crate::program::folder::Folder;
 use std::collections::BTreeSet;
 
 /// What may be left out of a call that is right, so that another is right.
-const OPTIONAL: [(&str, &str); 7] = [
+const OPTIONAL: [(&str, &str); 8] = [
     ("garble", "--run"),
     ("garble", "--scheme"),
+    ("garble", "--hashed"),
     ("garble", "--all-zeros"),
     ("evaluate", "--wires"),
     ("decode", "--yes-no"),

@@ -18,6 +18,11 @@ pub const SEED: [u8; 16] = [7; 16];
 /// A byte that buffers are filled with, to see what is written.
 pub const FILL: u8 = 0xA5;
 
+/// The marks that material can have, as numbers.
+pub const COLOURS: u16 = 0x4748;
+#[allow(dead_code)] // Few files of tests use it.
+pub const HASHES: u16 = 0x474A;
+
 /// The AND gate garbled by one scheme.
 pub struct Garbling {
     pub material: Vec<u8>,
@@ -42,6 +47,7 @@ pub fn garbling(scheme: u8) -> Garbling {
         &SEED,
         0,
         scheme,
+        COLOURS,
         &mut garbling.material,
         &mut garbling.zeros,
         &mut garbling.ones,

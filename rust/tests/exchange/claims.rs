@@ -14,8 +14,6 @@ pub enum Answers {
     Opposite,
     /// Always right.
     Right,
-    /// Some answer, of another circuit.
-    Some,
 }
 
 /// A row, or a part of it: the refusals that there are, and what the answer is else.
@@ -73,10 +71,9 @@ impl Claim {
         let numbers = before.split(|letter: char| !letter.is_ascii_digit());
         let answers = match after {
             "" => Answers::None,
-            "the right answer or the wrong one" | "some token is wrong, or none that is taken" => Answers::RightOrWrong,
+            "some token is wrong, which the desk meets as 29, or none that is taken" => Answers::RightOrWrong,
             "**the opposite answer**" => Answers::Opposite,
             "the same answer" | "the answer is right" => Answers::Right,
-            "some answer. `cmp` shows it" => Answers::Some,
             other => panic!("the page claims what no test knows: {other}"),
         };
         let refusals = numbers.filter_map(|number| number.parse().ok()).collect();
@@ -109,7 +106,6 @@ impl Seen {
             Answers::RightOrWrong => self.right && self.wrong,
             Answers::Opposite => !self.right && self.wrong,
             Answers::Right => self.right && !self.wrong,
-            Answers::Some => self.right || self.wrong,
         };
         answers && self.refusals == claim.refusals
     }
@@ -118,7 +114,7 @@ impl Seen {
     pub fn is_within(&self, claim: &Claim) -> bool {
         let (right, wrong) = match claim.answers {
             Answers::None => (false, false),
-            Answers::RightOrWrong | Answers::Some => (true, true),
+            Answers::RightOrWrong => (true, true),
             Answers::Opposite => (false, true),
             Answers::Right => (true, false),
         };

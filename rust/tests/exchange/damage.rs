@@ -4,7 +4,7 @@
 use super::claims::{Row, Seen};
 use super::page::Step;
 use super::readers::{files, Done, Files, Reader};
-use super::rows::{row_of_bit, row_of_length, MISSING};
+use super::rows::{row_of_byte, row_of_length, MISSING};
 use super::typed::place;
 use crate::program::due;
 use crate::program::folder::{difference, Folder};
@@ -31,7 +31,7 @@ fn name(path: &str) -> &str {
 /// One bit of a byte, chosen at random.
 fn flip(random: &mut Random, reader: Reader, path: &'static str, byte: usize) -> Damage {
     let bit = random.below(8);
-    let (row, part) = row_of_bit(name(path), byte, bit);
+    let (row, part) = row_of_byte(name(path), byte);
     let mut bytes = files()[path].clone();
     bytes[byte] ^= 1 << bit;
     Damage {
@@ -129,6 +129,11 @@ fn is_right(reader: Reader, done: &Done) -> bool {
 fn outcome(damage: &Damage, given: &Files, due: &Result<Done, Refusal>) -> Option<Result<bool, u8>> {
     match (due, damage.reader) {
         (Err(refusal), _) => Some(Err(refusal.number())),
+        (Ok(done), Reader::Decode) if damage.path == "desk/circuit" => {
+            // The page speaks of a desk that evaluates with it too. Decode goes by the sizes and the codes alone.
+            assert!(is_right(damage.reader, done), "{:?}", damage.row);
+            None
+        }
         (Ok(done), Reader::Decode | Reader::PickPrice | Reader::PickCeiling) => Some(Ok(is_right(damage.reader, done))),
         (Ok(done), Reader::Evaluate) => {
             let mut given = given.clone();
@@ -182,13 +187,19 @@ fn a_damaged_file_does_what_the_page_says() {
     });
 }
 
-/// What came out of an evaluation of damaged material, decoded by the program: row bits, tokens' bits, and the other scheme.
+/// What came out of an evaluation of damaged material, decoded by the program or refused: row bits, tokens' bits, bits
+/// of the hashes, and the other scheme.
 #[test]
 fn what_comes_of_damage_is_decoded() {
     let (evaluate, decode) = (Reader::Evaluate, Reader::Decode);
     let place = place_before(evaluate);
     let mut random = Random::new(variable("WEIGHHARE_SEED", 2));
-    let mut changes: Vec<(&str, usize, u8)> = vec![("desk/material", 2, 3 ^ 4), ("desk/material", 1163, 1)];
+    let mut changes: Vec<(&str, usize, u8)> = vec![
+        ("desk/material", 2, 3 ^ 4),
+        ("desk/material", 1163, 1),
+        ("desk/material", 1194, 0x80),
+    ];
+    let mut seen = [0, 0];
     for path in [
         "desk/material",
         "desk/price.tokens",
@@ -206,12 +217,17 @@ fn what_comes_of_damage_is_decoded() {
             run_step(&place, &evaluate.step()).is_done(b"");
             assert!(place.read("desk/outputs") == done.written[0].1, "{path}, byte {byte}");
             given.insert("desk/outputs".to_owned(), done.written[0].1.clone());
-            let printed = decode.due(&given).expect("what was evaluated is decoded").printed;
-            run_step(&place, &decode.step()).is_done(printed.as_bytes());
+            let (due, ended) = (decode.due(&given), run_step(&place, &decode.step()));
+            seen[usize::from(due.is_err())] += 1;
+            match due {
+                Ok(done) => ended.is_done(done.printed.as_bytes()),
+                Err(refusal) => ended.is_refused(&due::said(refusal)),
+            }
             place.remove("desk/outputs");
         }
         place.write(path, &files()[path]);
     }
+    assert!(seen[0] > 10 && seen[1] > 10, "decoded and refused: {seen:?}");
 }
 
 /// The whole exchange from a seed with a bit flipped: every command after the seed, as a process.

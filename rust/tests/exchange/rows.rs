@@ -19,13 +19,17 @@ const MATERIAL_HEAD: Row = row(
 const SCHEME: Row = row("material", "a bit of the scheme byte");
 const OTHER_SCHEME: Row = row("material", "the scheme byte, from 3 to 4");
 const ROW_BIT: Row = row("material", "a bit of a row");
-const LAST_BYTE: Row = row("material", "the last byte, from 0 to 1 or back");
-const LAST_BYTE_ELSE: Row = row("material", "another bit of the last byte");
+const HASH_BIT: Row = row("material", "a bit of one of the two hashes at its end");
+const EXCHANGED: Row = row("material", "the two hashes at its end, exchanged");
 const TOKENS_LENGTH: Row = row("price.tokens, ceiling.tokens", "the length of one");
 const TOKEN_BIT: Row = row("price.tokens, ceiling.tokens", "a bit");
+const TOKENS_MIXED: Row = row(
+    "price.tokens, ceiling.tokens",
+    "two tokens exchanged; a token of another garbling",
+);
 const OUTPUTS_LENGTH: Row = row("outputs", "its length");
-const COLOUR: Row = row("outputs", "the lowest bit of the last byte");
-const OUTPUTS_ELSE: Row = row("outputs", "another bit");
+const OUTPUTS_BIT: Row = row("outputs", "a bit");
+const OUTPUTS_MIXED: Row = row("outputs", "the token of another wire; of another garbling");
 const LISTS_LENGTH: Row = row("zeros, ones", "the length of one");
 const LISTS_BIT: Row = row("zeros, ones", "a bit");
 const SEED_LENGTH: Row = row("seed", "its length");
@@ -36,8 +40,8 @@ const fn row(file: &'static str, change: &'static str) -> Row {
     Row { file, change }
 }
 
-/// The row, and the part of it, that a bit of a file of the exchange belongs to, by the files' formats.
-pub fn row_of_bit(file: &str, byte: usize, bit: usize) -> (Row, usize) {
+/// The row, and the part of it, that a byte of a file of the exchange belongs to, by the files' formats.
+pub fn row_of_byte(file: &str, byte: usize) -> (Row, usize) {
     match (file, byte) {
         ("circuit", 0..8) => (CIRCUIT_HEAD, usize::from(byte > 1)),
         ("circuit", _) => match (byte - 8) % 7 {
@@ -48,11 +52,11 @@ pub fn row_of_bit(file: &str, byte: usize, bit: usize) -> (Row, usize) {
         ("material", 2) => (SCHEME, 0),
         ("material", 0..9) => (MATERIAL_HEAD, usize::from(byte > 1)),
         ("material", 1161 | 1162) => (MATERIAL_HEAD, 3),
-        ("material", 1163) => (if bit == 0 { LAST_BYTE } else { LAST_BYTE_ELSE }, 0),
+        ("material", 1163..) => (HASH_BIT, 0),
         ("material", _) if (byte - 9) % 36 < 4 => (MATERIAL_HEAD, 2),
         ("material", _) => (ROW_BIT, 0),
         ("price.tokens" | "ceiling.tokens", _) => (TOKEN_BIT, 0),
-        ("outputs", _) => (if (byte, bit) == (15, 0) { COLOUR } else { OUTPUTS_ELSE }, 0),
+        ("outputs", _) => (OUTPUTS_BIT, 0),
         ("zeros" | "ones", _) => (LISTS_BIT, 0),
         ("seed", _) => (SEED_BIT, 0),
         _ => panic!("no row for {file}"),
@@ -75,19 +79,13 @@ pub fn row_of_length(file: &str) -> Row {
 /// What was seen, by row and part.
 type AllSeen = BTreeMap<(Row, usize), Seen>;
 
-/// Exchanges of 32 bits by half-gates, with both answers and with both last bytes of the material.
+/// Exchanges of 32 bits by half-gates, as the page has them, with both answers.
 fn worlds() -> Vec<World> {
     let figures = [[1200, 1500], [1501, 1500], [u64::from(u32::MAX), u64::from(u32::MAX)]];
-    let world = |run: usize| World::new(32, figures[run % 3], due::SEED, run as u64, 3);
+    let world = |run: usize| World::hashed(32, figures[run % 3], due::SEED, run as u64, 3);
     let worlds: Vec<World> = (0..6).map(world).collect();
-    let kinds = worlds
-        .iter()
-        .map(|world| (world.file("bits")[0], world.file("material")[1163]));
-    assert_eq!(
-        kinds.collect::<BTreeSet<_>>().len(),
-        4,
-        "both answers with both last bytes"
-    );
+    let answers = worlds.iter().map(|world| world.file("bits")[0]);
+    assert_eq!(answers.collect::<BTreeSet<_>>().len(), 2, "both answers");
     worlds
 }
 
@@ -105,17 +103,23 @@ fn at_the_desk(world: &World, file: &str, bytes: &[u8]) -> Result<bool, Refusal>
     Ok(bits == world.file("bits"))
 }
 
-/// Whether pick gives the tokens that it should, where the list has these bytes.
+/// Whether pick gives the tokens that it should, where the list has these bytes. If not, the desk meets refusal 29.
 fn at_pick(world: &World, file: &str, bytes: &[u8]) -> Result<bool, Refusal> {
     let of = |name: &str| if name == file { bytes } else { world.file(name) };
     let tokens = due::pick(of("zeros"), of("ones"), 1, world.file("values"))?;
-    Ok(tokens == world.file("tokens"))
+    let right = tokens == world.file("tokens");
+    let [circuit, material] = ["circuit", "material"].map(|name| world.file(name));
+    let outputs = due::output_tokens(circuit, &due::evaluate(circuit, &tokens, material)?)?;
+    let decoded = due::decode(circuit, &outputs, material).map_err(Refusal::number);
+    assert_eq!(decoded.is_ok(), right);
+    assert!(right || decoded == Err(29));
+    Ok(right)
 }
 
 /// Whether the answer is right, where the seller garbles from these bytes.
 fn from_seed(world: &World, _: &str, bytes: &[u8]) -> Result<bool, Refusal> {
     let circuit = world.file("circuit");
-    let garbled = due::garble(circuit, bytes, world.run, world.scheme)?;
+    let garbled = due::garble_with(world.mark, circuit, bytes, world.run, world.scheme)?;
     assert_ne!(
         garbled.material,
         world.file("material"),
@@ -148,7 +152,7 @@ fn flip_each(seen: &mut AllSeen, world: &World, file: &str, outcome: Outcome) {
         for bit in 0..8 {
             bytes[byte] ^= 1 << bit;
             let outcome = outcome(world, file, &bytes).map_err(Refusal::number);
-            seen.entry(row_of_bit(file, byte, bit)).or_default().add(outcome);
+            seen.entry(row_of_byte(file, byte)).or_default().add(outcome);
             bytes[byte] ^= 1 << bit;
         }
     }
@@ -169,23 +173,58 @@ fn cut_each(seen: &mut AllSeen, world: &World, file: &str, outcome: Outcome) {
     }
 }
 
-/// All damages of all files but those of the first row with its own test.
-fn see_all(seen: &mut AllSeen, world: &World) {
+/// What happens at the desk with these bytes of a file, as a part of a row.
+fn see(seen: &mut AllSeen, (row, part): (Row, usize), world: &World, file: &str, bytes: &[u8]) {
+    let outcome = at_the_desk(world, file, bytes).map_err(Refusal::number);
+    seen.entry((row, part)).or_default().add(outcome);
+}
+
+/// The material with another scheme byte, and with its two hashes exchanged.
+fn see_material(seen: &mut AllSeen, world: &World) {
+    let material = world.file("material");
+    let mut other = material.to_vec();
+    assert_eq!(std::mem::replace(&mut other[2], 4), 3);
+    see(seen, (OTHER_SCHEME, 0), world, "material", &other);
+    let (front, hashes) = material.split_at(1163);
+    let exchanged = [front, &hashes[16..], &hashes[..16]].concat();
+    see(seen, (EXCHANGED, 0), world, "material", &exchanged);
+}
+
+/// Tokens in each other's place, and tokens of another exchange.
+fn see_mixed(seen: &mut AllSeen, world: &World, other: &World) {
+    for file in ["price.tokens", "ceiling.tokens"] {
+        for token in 0..32 {
+            let mut tokens: Vec<&[u8]> = world.file(file).chunks(16).collect();
+            tokens.swap(token, (token + 1 + token % 30) % 32);
+            see(seen, (TOKENS_MIXED, 0), world, file, &tokens.concat());
+            let mut tokens: Vec<&[u8]> = world.file(file).chunks(16).collect();
+            tokens[token] = &other.file(file)[16 * token..][..16];
+            see(seen, (TOKENS_MIXED, 1), world, file, &tokens.concat());
+        }
+    }
+    let (output, wires) = (world.file("outputs"), world.file("wires").chunks(16));
+    for wire in wires.filter(|wire| *wire != output) {
+        see(seen, (OUTPUTS_MIXED, 0), world, "outputs", wire);
+    }
+    see(seen, (OUTPUTS_MIXED, 1), world, "outputs", other.file("outputs"));
+}
+
+/// All damages of all files but those of the row with its own test.
+fn see_all(seen: &mut AllSeen, world: &World, other: &World) {
     for (file, outcome) in FILES {
         flip_each(seen, world, file, outcome);
         cut_each(seen, world, file, outcome);
     }
-    let mut other = world.file("material").to_vec();
-    assert_eq!(std::mem::replace(&mut other[2], 4), 3);
-    let outcome = at_the_desk(world, "material", &other).map_err(Refusal::number);
-    seen.entry((OTHER_SCHEME, 0)).or_default().add(outcome);
+    see_material(seen, world);
+    see_mixed(seen, world, other);
 }
 
 #[test]
 fn each_row_says_what_happens() {
     let mut seen = AllSeen::new();
-    for world in worlds() {
-        see_all(&mut seen, &world);
+    let worlds = worlds();
+    for (index, world) in worlds.iter().enumerate() {
+        see_all(&mut seen, world, &worlds[(index + 1) % worlds.len()]);
     }
     let mut said = BTreeSet::from([MISSING]);
     for ((row, part), seen) in seen {
@@ -229,9 +268,11 @@ fn a_wrong_row_would_be_seen() {
     for outcomes in [[Err(1), Err(5)], [Err(4), Ok(true)], [Err(4), Ok(false)]] {
         assert!(!seen(&outcomes).is_all_of(claim) && !seen(&outcomes).is_within(claim));
     }
-    let opposite = &COLOUR.claims()[0];
+    let opposite = &EXCHANGED.claims()[0];
     assert!(seen(&[Ok(false)]).is_all_of(opposite));
     assert!(!seen(&[Ok(true), Ok(false)]).is_within(opposite));
     let either = &ROW_BIT.claims()[0];
+    assert!(seen(&[Ok(true), Err(29)]).is_all_of(either));
     assert!(!seen(&[Ok(true)]).is_all_of(either) && !seen(&[Err(17)]).is_within(either));
+    assert!(!seen(&[Ok(false), Err(29)]).is_within(either));
 }

@@ -72,7 +72,7 @@ fn each_file_has_the_size_that_the_page_says() {
     let defined = BTreeMap::from([
         ("circuit", 28 * w - 13),
         ("seed", 16),
-        ("material", 11 + 1 + w * (4 + 2 * token)),
+        ("material", 11 + 2 * token + w * (4 + 2 * token)),
         ("zeros", 2 * w * token),
         ("ones", 2 * w * token),
         ("price.tokens", w * token),
@@ -146,7 +146,8 @@ fn the_files_are_the_librarys() {
     let steps = steps();
     let (price, ceiling) = (figure(&steps, "price"), figure(&steps, "ceiling"));
     let circuit = due::comparator(32).expect("a circuit");
-    let garbled = due::garble(&circuit, &place.read("seller/seed"), 0, 3).expect("garbled");
+    let seed = place.read("seller/seed");
+    let garbled = due::garble_with(due::HASHES, &circuit, &seed, 0, 3).expect("garbled");
     let values = [due::values(price, 32), due::values(ceiling, 32)].concat();
     let tokens = due::encode(&circuit, &values, garbled.zeros(), &garbled.ones).expect("encoded");
     let wires = due::evaluate(&circuit, &tokens, &garbled.material).expect("evaluated");

@@ -20,7 +20,8 @@ pub struct Case {
     pub right: bool,
 }
 
-/// Exchanges of every scheme. Their figures have 12 digits or more, so that none occurs by chance.
+/// Exchanges of every scheme, and two with hashes in the material. Their figures have 12 digits or more, so that none
+/// occurs by chance.
 pub fn worlds() -> Vec<World> {
     let other = |by: u8| SEED.map(|byte| byte.wrapping_mul(3).wrapping_add(by));
     vec![
@@ -34,6 +35,8 @@ pub fn worlds() -> Vec<World> {
             1 << 40,
             4,
         ),
+        World::hashed(41, [829_104_658_273, 829_104_658_274], other(4), 9, 3),
+        World::hashed(42, [3_104_658_273_918, 2_982_736_455_463], other(5), 0, 1),
     ]
 }
 

@@ -5,7 +5,7 @@ use crate::program::due;
 use weighhare::Refusal;
 
 /// The options that take no value.
-const FLAGS: [&[u8]; 2] = [b"--force", b"--yes-no"];
+const FLAGS: [&[u8]; 3] = [b"--force", b"--yes-no", b"--hashed"];
 
 /// The options that name files which are written, and whether these are secret, by command.
 pub const WRITES: [(&str, &str, bool); 12] = [
@@ -169,7 +169,9 @@ impl Oracle<'_> {
 
     fn garble(&self) -> Option<Result<Done, Refusal>> {
         let (run, scheme) = (self.parsed.number("--run", 0)?, self.parsed.number("--scheme", 3)?);
-        let garbled = due::garble(
+        let hashed = self.parsed.option("--hashed").is_some();
+        let garbled = due::garble_with(
+            if hashed { due::HASHES } else { due::COLOURS },
             &self.circuit()?,
             &self.option("--seed")?,
             run,

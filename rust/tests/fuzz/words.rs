@@ -6,7 +6,7 @@ use crate::program::random::Random;
 use crate::program::world::World;
 
 /// Options of all commands, and such as there are none.
-const OPTIONS: [&str; 24] = [
+const OPTIONS: [&str; 25] = [
     "--bits",
     "--out",
     "--seed",
@@ -24,6 +24,7 @@ const OPTIONS: [&str; 24] = [
     "--wires",
     "--outputs",
     "--yes-no",
+    "--hashed",
     "--force",
     "--colour",
     "-x",

@@ -170,11 +170,15 @@ pub fn calls(world: &World) -> Vec<Call> {
 }
 
 fn garblings(world: &World) -> [Call; 2] {
-    let garble = Call::of("garble")
+    let mut garble = Call::of("garble")
         .reads("", "circuit")
         .reads("--seed", "seed")
         .text("--run", world.run)
-        .text("--scheme", world.scheme)
+        .text("--scheme", world.scheme);
+    if world.mark == due::HASHES {
+        garble = garble.with("--hashed", Value::Nothing);
+    }
+    let garble = garble
         .writes("--material", "material")
         .writes("--zeros", "zeros")
         .writes("--ones", "ones");

@@ -5,6 +5,10 @@ use weighhare::{Refusal, Sizes};
 /// A seed for garblings that are the same in every run.
 pub const SEED: [u8; 16] = *b"\x9d\x21\xf0\x5e\xb3\x07\xc8\x6a\x14\xee\x72\x39\xd5\x80\x4b\xa6";
 
+/// The marks that material can have: with colours of the outputs' zero tokens, and with hashes of both tokens.
+pub const COLOURS: u16 = 0x4748;
+pub const HASHES: u16 = 0x474A;
+
 /// The rows of a charged gate, by scheme.
 const ROWS: [usize; 4] = [4, 3, 2, 2];
 
@@ -41,14 +45,21 @@ pub fn values(figure: u64, bits: usize) -> Vec<u8> {
     (0..bits).map(|index| bit(index) as u8).collect()
 }
 
-/// The material's length for a scheme from 1 to 4.
-pub fn material_length(sizes: Sizes, scheme: u8) -> usize {
-    11 + sizes.m + sizes.p * (4 + 16 * ROWS[usize::from(scheme) - 1])
+/// The material's length for a scheme from 1 to 4 and a mark that there is.
+pub fn material_length(sizes: Sizes, scheme: u8, mark: u16) -> usize {
+    let outputs = if mark == HASHES { 32 * sizes.m } else { sizes.m };
+    11 + outputs + sizes.p * (4 + 16 * ROWS[usize::from(scheme) - 1])
 }
 
+/// With the mark 47 48.
 pub fn garble(circuit: &[u8], seed: &[u8], run: u64, scheme: u8) -> Result<Garbled, Refusal> {
+    garble_with(COLOURS, circuit, seed, run, scheme)
+}
+
+/// With a mark.
+pub fn garble_with(mark: u16, circuit: &[u8], seed: &[u8], run: u64, scheme: u8) -> Result<Garbled, Refusal> {
     let sizes = weighhare::check(circuit)?;
-    let longest = material_length(sizes, 1);
+    let longest = material_length(sizes, 1, HASHES);
     let mut garbled = Garbled {
         material: vec![0; longest],
         all_zeros: vec![0; 16 * (sizes.n + sizes.q)],
@@ -59,8 +70,8 @@ pub fn garble(circuit: &[u8], seed: &[u8], run: u64, scheme: u8) -> Result<Garbl
         all_zeros,
         ones,
     } = &mut garbled;
-    let length = weighhare::garble(circuit, seed, run, scheme, material, all_zeros, ones)?.length;
-    assert_eq!(length, material_length(sizes, scheme));
+    let length = weighhare::garble(circuit, seed, run, scheme, mark, material, all_zeros, ones)?.length;
+    assert_eq!(length, material_length(sizes, scheme, mark));
     material.truncate(length);
     Ok(garbled)
 }
@@ -139,7 +150,7 @@ pub fn answer(yes: bool) -> &'static str {
 pub fn sizes(circuit: &[u8]) -> Result<String, Refusal> {
     let sizes = weighhare::check(circuit)?;
     let Sizes { n, m, q, p } = sizes;
-    let [one, two, three, four] = [1, 2, 3, 4].map(|scheme| material_length(sizes, scheme));
+    let [one, two, three, four] = [1, 2, 3, 4].map(|scheme| material_length(sizes, scheme, COLOURS));
     Ok(format!(
         "inputs {n}\noutputs {m}\ngates {q}\ncharged {p}\nmaterial {one} {two} {three} {four}\n"
     ))

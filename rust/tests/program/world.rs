@@ -10,6 +10,8 @@ pub struct World {
     pub ceiling: u64,
     pub run: u64,
     pub scheme: u8,
+    /// The mark of its material.
+    pub mark: u16,
     pub files: BTreeMap<&'static str, Vec<u8>>,
 }
 
@@ -21,7 +23,17 @@ pub fn is_secret(file: &str) -> bool {
 }
 
 impl World {
-    pub fn new(width: usize, [price, ceiling]: [u64; 2], seed: [u8; 16], run: u64, scheme: u8) -> Self {
+    /// An exchange with material of mark 47 48.
+    pub fn new(width: usize, figures: [u64; 2], seed: [u8; 16], run: u64, scheme: u8) -> Self {
+        Self::with(due::COLOURS, width, figures, seed, run, scheme)
+    }
+
+    /// An exchange with material of mark 47 4A.
+    pub fn hashed(width: usize, figures: [u64; 2], seed: [u8; 16], run: u64, scheme: u8) -> Self {
+        Self::with(due::HASHES, width, figures, seed, run, scheme)
+    }
+
+    fn with(mark: u16, width: usize, [price, ceiling]: [u64; 2], seed: [u8; 16], run: u64, scheme: u8) -> Self {
         let files = BTreeMap::from([
             ("circuit", due::comparator(width).expect("a width from 1 to 64")),
             ("seed", seed.to_vec()),
@@ -38,6 +50,7 @@ impl World {
             ceiling,
             run,
             scheme,
+            mark,
             files,
         };
         world.garble();
@@ -50,7 +63,8 @@ impl World {
     }
 
     fn garble(&mut self) {
-        let garbled = due::garble(self.file("circuit"), self.file("seed"), self.run, self.scheme).expect("garbled");
+        let (circuit, seed) = (self.file("circuit"), self.file("seed"));
+        let garbled = due::garble_with(self.mark, circuit, seed, self.run, self.scheme).expect("garbled");
         let (zeros, ones) = (garbled.zeros().to_vec(), garbled.ones);
         let values = self.file("values");
         let (price, ceiling) = values.split_at(self.width);

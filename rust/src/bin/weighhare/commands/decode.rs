@@ -25,7 +25,11 @@ pub static COMMAND: Command = Command {
 const HELP: &str = "\
 usage: weighhare decode CIRCUIT --material MATERIAL --outputs OUTPUTS [--yes-no | --out BITS [--force]]
 
-Prints the outputs' bits, a digit for each, in the order of the outputs. Any tokens decode to some bits.
+Prints the outputs' bits, a digit for each, in the order of the outputs.
+
+Where the material was garbled with --hashed, a token that is none of its output's two is refused, 29: it was mistyped,
+mixed up, is of another garbling, or came of damaged material or tokens. Else any tokens decode to some bits. Neither
+shows material whose garbler means to deceive.
 
   CIRCUIT              the circuit: a file, or - for standard input
   --material MATERIAL  the material, as garble wrote it: a file, or -

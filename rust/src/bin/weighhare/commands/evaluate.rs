@@ -27,7 +27,7 @@ const HELP: &str = "\
 usage: weighhare evaluate CIRCUIT --material MATERIAL --tokens TOKENS .. --out OUTPUTS [--wires FILE] [--force]
 
 Works a garbled circuit through: from a token for each input, the token of every wire, and of these the outputs'. Material that
-somebody else made can be well-formed and wrong, and then still ends in some tokens.
+somebody else made can be well-formed and wrong, and then still ends in some tokens, with or without --hashed.
 
   CIRCUIT              the circuit: a file, or - for standard input
   --material MATERIAL  the material, as garble wrote it: a file, or -

@@ -16,6 +16,7 @@ pub static COMMAND: Command = Command {
         ("--seed", Takes::Needed),
         ("--run", Takes::Perhaps),
         ("--scheme", Takes::Perhaps),
+        ("--hashed", Takes::Nothing),
         ("--material", Takes::Needed),
         ("--zeros", Takes::Needed),
         ("--ones", Takes::Needed),
@@ -26,8 +27,8 @@ pub static COMMAND: Command = Command {
 };
 
 const HELP: &str = "\
-usage: weighhare garble CIRCUIT --seed SEED [--run N] [--scheme S] --material MATERIAL --zeros ZEROS --ones ONES
-                        [--all-zeros FILE] [--force]
+usage: weighhare garble CIRCUIT --seed SEED [--run N] [--scheme S] [--hashed] --material MATERIAL --zeros ZEROS
+                        --ones ONES [--all-zeros FILE] [--force]
 
 Garbles a circuit. The material is for the desk; the two lists of tokens are secret, and for encode and pick.
 
@@ -36,6 +37,10 @@ Garbles a circuit. The material is for the desk; the two lists of tokens are sec
   --run N              which of the seed's garblings this is, 0 where nothing is said; two with one number have one R, which
                        must not be, and nothing here notices it
   --scheme S           1 GaX, 2 GaXR, 3 half-gates, 4 re-keyed half-gates; 3 where nothing is said
+  --hashed             end the material in hashes of the outputs' tokens, mark 47 4A: then decode refuses a token that
+                       is none of its output's two, such as one mistyped or mixed up. It does not show a garbler, or
+                       whoever changes the material, that exchanges an output's two hashes. Without it the mark is
+                       47 48, and any token decodes to some bit
   --material MATERIAL  the material, which is written: a file, or - for standard output
   --zeros ZEROS        the zero token of every input, written for their owner alone
   --ones ONES          the one token of every input, written for their owner alone
@@ -44,7 +49,7 @@ Garbles a circuit. The material is for the desk; the two lists of tokens are sec
 
 Example:
 
-  $ weighhare garble circuit --seed seed --material material --zeros zeros --ones ones
+  $ weighhare garble circuit --seed seed --hashed --material material --zeros zeros --ones ones
 ";
 
 fn run(arguments: &Arguments) -> Result<(), Trouble> {
@@ -64,7 +69,12 @@ fn run(arguments: &Arguments) -> Result<(), Trouble> {
     let seed = input.read_secret("the seed", arguments.needed("--seed")?)?;
     // In the library's order of refusals: the circuit, the seed, the scheme.
     let circuit = Circuit::new(circuit)?;
-    let garbling = circuit.garble(&Seed::from_bytes(&seed)?, run, Scheme::try_from(scheme)?);
+    let (seed, scheme) = (Seed::from_bytes(&seed)?, Scheme::try_from(scheme)?);
+    let garbling = if arguments.option("--hashed").is_some() {
+        circuit.garble_hashed(&seed, run, scheme)?
+    } else {
+        circuit.garble(&seed, run, scheme)
+    };
     output.write(&[
         ("--material", garbling.material()),
         ("--zeros", garbling.input_zeros()),

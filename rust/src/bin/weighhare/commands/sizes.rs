@@ -19,7 +19,8 @@ pub static COMMAND: Command = Command {
 const HELP: &str = "\
 usage: weighhare sizes CIRCUIT
 
-Prints the inputs, outputs, gates and charged gates of a circuit, and the bytes of its material under schemes 1, 2, 3 and 4.
+Prints the inputs, outputs, gates and charged gates of a circuit, and the bytes of its material under schemes 1, 2, 3
+and 4, as garble writes it without --hashed; with it there are 31 more for each output.
 
   CIRCUIT  the circuit: a file, or - for standard input
 
