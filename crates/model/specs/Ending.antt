@@ -18,7 +18,7 @@ pub record Ending : Type 0 where
   pub stored : ℕ → Block → Block → List ℕ  -- those that garbling makes of output k, from its zero and its one token
   pub calls : ℕ → Block → Block → List Call  -- by these encryptions
   pub clash : List ℕ → Bool  -- 30: such bytes do not tell the output's two tokens apart
-  pub wrong : List ℕ → Bool  -- 18: an output's bytes are not such
+  pub wrong : List ℕ → Bool  -- 18: an output may not have these bytes
   pub unknown : ℕ → Block → List ℕ → Bool  -- 29: a token of output k is not one that its bytes stand for
   pub bit : ℕ → Block → List ℕ → ℕ  -- what the token decodes to
 

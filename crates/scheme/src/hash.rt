@@ -71,8 +71,8 @@ fn fixed_four(k: &[u64; 88], a: Block, x: Block, i: u64, b: Block, y: Block, j: 
     )
 }
 
-// Scheme 3's hash of two tokens of an output, by its number from 1: "t = 2 times (65,536+k)" (02, job 12). Two of four lanes are thrown away, and
-// nothing is looked up by a token. `fixed_four` has one caller, and stays in garble's loop.
+// Scheme 3's hash of two tokens of an output, by its number from 1: "t = 2 times (65,536+k)" (02, job 12). In planes, as at a gate: nothing is
+// looked up by a token, and two of the four lanes are thrown away.
 pub fn hash_output(k: &[u64; 88], x: Block, y: Block, number: usize) -> Answers
     requires { ⌜ FixedPlanes (now k) ⌝ }
     requires { ⌜ number ≤ 65536 ⌝ }
