@@ -63,9 +63,9 @@ pub ruleset pair-cases = (pair-apart, pair-equal)
 
 -- ---- find_clash
 module _ (s : List ℕ) (want : Wanted) (z : Sizes) (bounded : Bounded z) (room : lengthFor z want ≤ length s) (t : Bool) (is-t : t ≡ wantsHashes want) where
-  pub found-room : t ≡ true → (at : ℕ) → at ≡ lastStart (want .scheme) (z .p) → at + 2 + 32 * z .m ≤ length s
+  pub found-room : t ≡ true → (at : ℕ) → at ≡ lastStart (want .scheme) (z .p) → (k : ℕ) → k ≤ 2 → at + k + 32 * z .m ≤ length s
   unfolding lengthFor lastBytes endingOf hashes
-  found-room e at is-at =
+  found-room e at is-at k h =
       let b : wantsHashes want ≡ true = sym is-t ∙ e in
       let l : lastStart (want .scheme) (z .p) + 2 + 32 * z .m ≤ length s = rw (b, length-last (want .scheme) (32 * z .m) (z .p)) at room in
       omega (arith, l, is-at)

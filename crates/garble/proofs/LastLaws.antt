@@ -1,5 +1,6 @@
 -- The last record: the loops that write its colours and its hashes, and the record whole. Assumes nothing.
 use Prim.Native.Nat.{ℕ, suc, _+_, _*_, _-_, _≤_, _<_}
+use native.Mathlib.Nat.{mul-le-mul}
 use native.Mathlib.Numerals.{add-one}
 use native.Mathlib.Omega.{arith}
 use mathlib.Core.Path.{_≡_, refl, sym, ap, _∙_}
@@ -153,8 +154,8 @@ module _ (c : List ℕ) (s : Sizes) (z o : List ℕ) (at : ℕ) (start : HashesS
     pub hashes-place : Fits w64 (32 * j)
     hashes-place = omega (arith, few)
 
-    pub hashes-number : j + 1 ≤ 65536
-    hashes-number = omega (arith, few)
+    pub hashes-number : (k : ℕ) → k ≤ j + 1 → k ≤ 65536
+    hashes-number k l = omega (arith, few)
 
     module _ (w : ℕ) (is-w : w ≡ getD (circuitOf c .outputs) j 0) where
       output-among : OutputHolds c j
@@ -218,8 +219,9 @@ module _ (c : List ℕ) (want : Wanted) (s : Sizes) (z f : List ℕ) (at : ℕ) 
   many : length (circuitOf c .outputs) ≡ s .m
   many = outputs-many c ∙ sym m-is
 
-  pub last-twice : Fits w64 (2 * s .m)
-  last-twice = omega (arith, Sized.few-outputs c s (start .sized))
+  -- up to two calls for each output do not overflow
+  pub last-fits : (k : ℕ) → k ≤ 2 → Fits w64 (k * s .m)
+  last-fits k h = omega (arith, mul-le-mul h (Sized.few-outputs c s (start .sized)))
 
   pub last-room : at + 2 ≤ length f
   last-room = omega (arith, start .room)
@@ -264,4 +266,4 @@ module _ (c : List ℕ) (want : Wanted) (s : Sizes) (z f : List ℕ) (at : ℕ) 
         rw (colours-are z R 1 (circuitOf c .outputs), colours-bytes (s .m)) (length-map (circuitOf c .outputs) _ ∙ many) in
         record { left = left-is false e R f′ same long; calls-made = rw b }
 
-pub ruleset last-cases = (last-twice, last-room, by-hashes, by-colours, hashed-done, coloured-done)
+pub ruleset last-cases = (last-fits, last-room, by-hashes, by-colours, hashed-done, coloured-done)
