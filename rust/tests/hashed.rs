@@ -2,7 +2,7 @@
 
 mod common;
 
-use common::{garbling, Garbling, AND, COLOURS, FILL, GATES, HASHES, SEED};
+use common::{garbling, Garbling, AND, COLOURS, FILL, GATES, HASHES, NAMED, SEED};
 use weighhare::Refusal;
 
 /// The two hashes of the AND gate's output, by schemes 3 and 4: made with another AES, OpenSSL's, from docs/SCHEMES.md.
@@ -15,16 +15,6 @@ const PAIRS: [(u8, [u128; 2]); 2] = [
         4,
         [0xe7d52d870689e7ae87051d5b35938c65, 0xce3d9f81e603fe85f39aa57d20c9c04d],
     ),
-];
-
-/// The AND gate with outputs by name: wire 3, wire 1, which is an input, and wire 3 again.
-#[rustfmt::skip]
-const NAMED: [u8; 27] = [
-    0x43, 0x49, 0, 2, 0, 3, 0, 1,
-    0x43, 0x47, 0, 1, 0, 2, 8,
-    0x43, 0x4F, 0, 3,
-    0x43, 0x4F, 0, 1,
-    0x43, 0x4F, 0, 3,
 ];
 
 /// The two hashes of each output of that circuit, by scheme 3, made so too.

@@ -2,18 +2,8 @@
 
 mod common;
 
-use common::{garbling, Garbling, AND, COLOURS, FILL, GATES, SEED};
+use common::{garbling, Garbling, AND, COLOURS, FILL, GATES, NAMED, SEED};
 use weighhare::{Refusal, Sizes};
-
-/// The AND gate with outputs by name: wire 3, wire 1, which is an input, and wire 3 again.
-#[rustfmt::skip]
-const NAMED: [u8; 27] = [
-    0x43, 0x49, 0, 2, 0, 3, 0, 1,
-    0x43, 0x47, 0, 1, 0, 2, 8,
-    0x43, 0x4F, 0, 3,
-    0x43, 0x4F, 0, 1,
-    0x43, 0x4F, 0, 3,
-];
 
 /// The AND gate with its last wire named.
 #[rustfmt::skip]

@@ -1,6 +1,6 @@
 //! Each refusal, by an operation that gives it; and the buffers, which it leaves as they were. 21 is met in
 //! `comparator.rs`, 25 and 26 in `named.rs`, 29 in `hashed.rs`. Left out are 22, 23, 24, 27 and 28, which nothing gives
-//! yet, and 30, for which two hashes would have to be equal: no run can meet it.
+//! yet, and 30, for which two hashes would have to be equal: no run is known that meets it.
 
 mod common;
 
@@ -85,7 +85,7 @@ fn garble_refusal(seed: &[u8], scheme: u8, lengths: [usize; 3]) -> Option<Refusa
 }
 
 /// Garble's refusal, which is the same in every run. The buffers are seen to be as they were: refusal 30, which alone
-/// changes them, no run can meet.
+/// changes them, no run is known to meet.
 fn refusal_with_mark(seed: &[u8], scheme: u8, mark: u16, lengths: [usize; 3]) -> Option<Refusal> {
     let in_run = |run: u64| {
         let [mut material, mut zeros, mut ones] = lengths.map(|length| vec![FILL; length]);

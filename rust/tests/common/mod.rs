@@ -5,6 +5,17 @@ use weighhare::Gate;
 /// 2 inputs, 1 output, 1 gate: wire 3 is wire 1 AND wire 2.
 pub const AND: [u8; 15] = [0x43, 0x48, 0, 2, 0, 1, 0, 1, 0x43, 0x47, 0, 1, 0, 2, 8];
 
+/// The AND gate with outputs by name: wire 3, wire 1, which is an input, and wire 3 again.
+#[allow(dead_code)] // Few files of tests use it.
+#[rustfmt::skip]
+pub const NAMED: [u8; 27] = [
+    0x43, 0x49, 0, 2, 0, 3, 0, 1,
+    0x43, 0x47, 0, 1, 0, 2, 8,
+    0x43, 0x4F, 0, 3,
+    0x43, 0x4F, 0, 1,
+    0x43, 0x4F, 0, 3,
+];
+
 /// With 3 inputs, wire 4 is wire 1 AND wire 2, wire 5 is wire 3 XOR wire 4, wire 6 is wire 4 NOR wire 5.
 pub const GATES: [Gate; 3] = [
     Gate { a: 1, b: 2, code: 8 },
