@@ -79,49 +79,6 @@ static struct written all_decoded(const struct worker *w, struct subject *s)
     return all;
 }
 
-/* What the library's check_opening says of the material. The scratch is compared where it refuses: else its bytes are free. */
-static struct written all_opened(struct subject *s, uint8_t scheme)
-{
-    struct written all = {NULL, 0};
-    uint64_t answer[4];
-    memset(answer, 0x5A, sizeof answer);
-    memset(s->held, 0x5A, 16 * s->wires);
-    uint8_t number = weighhare_check_opening(s->circuit, s->circuit_length, s->seed, 16, s->run, scheme, s->material,
-                                             s->material_length, s->held, 16 * s->wires, answer);
-    append(&all, &number, 1);
-    append(&all, answer, sizeof answer);
-    append(&all, s->held, number == 0 ? 0 : 16 * s->wires);
-    return all;
-}
-
-/* What it is to say, by another's garbling with the material's own mark: the garbler's refusal, or else whether the material
- * is what that wrote. With 30 it is not, nor with a mark that is none. A changed circuit can have more outputs or charged
- * gates: hence twice the room. */
-static struct written all_due(const struct worker *w, struct subject *s, uint8_t scheme)
-{
-    struct written all = {NULL, 0};
-    size_t room = 2 * s->material_room;
-    uint8_t *own = malloc(room);
-    if (own == NULL)
-        exit(2);
-    uint64_t answer[4];
-    uint16_t mark = s->material[0] == 0x47 && s->material[1] == 0x4A ? WEIGHHARE_HASHES : WEIGHHARE_COLOURS;
-    uint8_t number = w->garble(s->circuit, s->circuit_length, s->seed, 16, s->run, scheme, mark, own, room, s->zeros,
-                               16 * s->wires, s->ones, 16 * INPUTS, answer);
-    if (number == 0 || number == WEIGHHARE_OUTPUT_HASHES) {
-        uint64_t yes = number == 0 && answer[0] == s->material_length && memcmp(own, s->material, answer[0]) == 0;
-        number = 0;
-        memset(answer, 0, sizeof answer);
-        answer[0] = yes;
-    }
-    memset(s->held, 0x5A, 16 * s->wires);
-    append(&all, &number, 1);
-    append(&all, answer, sizeof answer);
-    append(&all, s->held, number == 0 ? 0 : 16 * s->wires);
-    free(own);
-    return all;
-}
-
 static void same(const struct worker *w, const char *what, struct written library, struct written other)
 {
     if (library.length != other.length || memcmp(library.bytes, other.bytes, library.length) != 0)
@@ -154,21 +111,7 @@ static void agree_on_decode(struct subject *s)
     free(library.bytes);
 }
 
-/* One of the others, by any number. */
-static const struct worker *other(unsigned number)
-{
-    return &workers[1 + number % (worker_count - 1)];
-}
-
-/* The library's check_opening of the material, beside a garbling by one of the others, which take turns. */
-static void agree_on_opening(struct subject *s, uint8_t scheme)
-{
-    static unsigned turn;
-    const struct worker *w = other(turn++);
-    struct written library = all_opened(s, scheme);
-    same(w, "check_opening", library, all_due(w, s, scheme));
-    free(library.bytes);
-}
+static const uint16_t marks[2] = {WEIGHHARE_COLOURS, WEIGHHARE_HASHES};
 
 void agree_on(struct subject *s)
 {
@@ -176,16 +119,15 @@ void agree_on(struct subject *s)
         uint8_t scheme = (uint8_t)(1 + i % 4);
         s->mark = marks[i / 4];
         agree_on_garble(s, scheme);
-        run_garble(other(i), s, scheme);
+        run_garble(&workers[0], s, scheme);
         agree_on_evaluate(s);
-        agree_on_opening(s, scheme);
         find_outputs(s);
         agree_on_decode(s);
     }
     s->mark = WEIGHHARE_COLOURS;
 }
 
-/* So many calls with one bit of an argument changed, in turn with either mark; some with material a byte longer or shorter. */
+/* So many calls with one bit of an argument changed, in turn with either mark. */
 static void agree_on_changed(struct subject *s, unsigned calls)
 {
     for (unsigned i = 0; i < calls; i++) {
@@ -195,17 +137,14 @@ static void agree_on_changed(struct subject *s, unsigned calls)
         *byte ^= flip;
         agree_on_garble(s, scheme);
         *byte ^= flip;
-        run_garble(other(i), s, scheme);
-        agree_on_opening(s, scheme);
+        run_garble(&workers[0], s, scheme);
         find_outputs(s);
         byte = i / 4 % 4 ? &s->material[random_below(s->material_length)] : &s->circuit[random_below(s->circuit_length)];
         *byte ^= flip;
-        size_t length = s->material_length;
-        s->material_length = length + (i % 7 == 0) - (i % 7 == 1);
+        s->material_length += i % 7 == 0;
         agree_on_evaluate(s);
         agree_on_decode(s);
-        agree_on_opening(s, scheme);
-        s->material_length = length;
+        s->material_length -= i % 7 == 0;
         *byte ^= flip;
         s->outputs[37 * i % (16 * OUTPUTS)] ^= flip;
         agree_on_decode(s);
@@ -214,32 +153,19 @@ static void agree_on_changed(struct subject *s, unsigned calls)
 }
 
 /* Every bit of these bytes of the material changed. */
-static void agree_on_material_bits(struct subject *s, uint8_t scheme, size_t from, size_t to)
+static void agree_on_material_bits(struct subject *s, size_t from, size_t to)
 {
     for (size_t bit = 8 * from; bit < 8 * to; bit++) {
         uint8_t flip = (uint8_t)(1u << bit % 8);
         s->material[bit / 8] ^= flip;
         agree_on_evaluate(s);
         agree_on_decode(s);
-        agree_on_opening(s, scheme);
         s->material[bit / 8] ^= flip;
     }
 }
 
-/* The first bytes of the material alone: none, and up to one after the header. */
-static void agree_on_fronts(struct subject *s, uint8_t scheme)
-{
-    size_t length = s->material_length;
-    for (s->material_length = 0; s->material_length <= 10; s->material_length++) {
-        agree_on_evaluate(s);
-        agree_on_decode(s);
-        agree_on_opening(s, scheme);
-    }
-    s->material_length = length;
-}
-
 /* Every mark that shares a byte with a right one, as the argument; every bit of the header, of the last record's mark
- * and of the two bytes after it, in material of either mark, and its first bytes alone. */
+ * and of the two bytes after it, in material of either mark. */
 static void agree_on_marks(struct subject *s)
 {
     for (unsigned byte = 0; byte <= 255; byte++) {
@@ -250,14 +176,12 @@ static void agree_on_marks(struct subject *s)
         }
     }
     for (unsigned i = 0; i < 8; i++) {
-        uint8_t scheme = (uint8_t)(1 + i % 4);
         s->mark = marks[i / 4];
-        run_garble(&workers[0], s, scheme);
+        run_garble(&workers[0], s, (uint8_t)(1 + i % 4));
         find_outputs(s);
         size_t last = s->material_length - OUTPUTS * (i / 4 ? 32 : 1) - 2;
-        agree_on_material_bits(s, scheme, 0, 9);
-        agree_on_material_bits(s, scheme, last, last + 4);
-        agree_on_fronts(s, scheme);
+        agree_on_material_bits(s, 0, 9);
+        agree_on_material_bits(s, last, last + 4);
     }
     s->mark = WEIGHHARE_COLOURS;
 }
@@ -270,46 +194,22 @@ static void agree_on_bits(struct subject *s, size_t from, size_t to)
         run_garble(&workers[0], s, scheme);
         s->circuit[bit / 8] ^= flip;
         agree_on_evaluate(s);
-        agree_on_opening(s, scheme);
         agree_on_garble(s, scheme);
         s->circuit[bit / 8] ^= flip;
     }
 }
 
-/* Every scheme byte, as the argument and in material of every scheme: schemes 3 and 4 evaluate each other's. */
+/* Every scheme byte, as the argument and in material of every scheme: schemes 3 and 4 take each other's. */
 static void agree_on_schemes(struct subject *s)
 {
     for (unsigned byte = 0; byte <= 255; byte++) {
         agree_on_garble(s, (uint8_t)byte);
         for (uint8_t scheme = 1; scheme <= 4; scheme++) {
             run_garble(&workers[0], s, scheme);
-            agree_on_opening(s, (uint8_t)byte);
             s->material[2] = (uint8_t)byte;
             agree_on_evaluate(s);
-            agree_on_opening(s, scheme);
         }
     }
-}
-
-/* Every bit of the seed and of the run number changed, of which the material then is not. */
-static void agree_on_origins(struct subject *s)
-{
-    for (unsigned i = 0; i < 8; i++) {
-        uint8_t scheme = (uint8_t)(1 + i % 4);
-        s->mark = marks[i / 4];
-        run_garble(other(i), s, scheme);
-        for (unsigned bit = 0; bit < 128; bit++) {
-            s->seed[bit / 8] ^= (uint8_t)(1u << bit % 8);
-            agree_on_opening(s, scheme);
-            s->seed[bit / 8] ^= (uint8_t)(1u << bit % 8);
-        }
-        for (unsigned bit = 0; bit < 64; bit++) {
-            s->run ^= UINT64_C(1) << bit;
-            agree_on_opening(s, scheme);
-            s->run ^= UINT64_C(1) << bit;
-        }
-    }
-    s->mark = WEIGHHARE_COLOURS;
 }
 
 void agree_on_damage(unsigned calls)
@@ -319,7 +219,6 @@ void agree_on_damage(unsigned calls)
     agree_on_bits(&s, 0, 8);
     agree_on_schemes(&s);
     agree_on_marks(&s);
-    agree_on_origins(&s);
     free_subject(&s);
 }
 

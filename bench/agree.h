@@ -5,13 +5,11 @@
 #include "subject.h"
 
 /* Garbles, evaluates and decodes by every worker, with either mark of the material, and compares all that is written;
- * has the library check what another garbled as an opening, and compares its answer with what another writes; ends the
- * program where they differ. */
+ * ends the program where they differ. */
 void agree_on(struct subject *s);
 
 /* The same on so many calls with one bit of an argument changed, where most are refused, with every bit of the circuit's
- * header, its mark among them, with every scheme byte, with marks of the material that are none, and with its first bytes
- * alone. Openings also with every bit of the seed and of the run number changed. */
+ * header, its mark among them, with every scheme byte, and with marks of the material that are none. */
 void agree_on_damage(unsigned calls);
 
 /* Both with each of four run numbers other than 0. */

@@ -4,8 +4,9 @@
 #include "rounds.h"
 #include "weighhare.h"
 
-enum { CALLS = 20 };
+enum { CALLS = 20, MARKS = 2 };
 
+static const uint16_t marks[MARKS] = {WEIGHHARE_COLOURS, WEIGHHARE_HASHES};
 static const char *const mark_names[MARKS] = {"colours", "hashes"};
 
 /* The time of one garbling with the subject's mark, for a charged gate. */

@@ -7,7 +7,6 @@
 
 #include "agree.h"
 #include "marked.h"
-#include "opening.h"
 #include "repeated.h"
 #include "rounds.h"
 #include "subject.h"
@@ -100,7 +99,6 @@ static void measure_all(unsigned rounds, unsigned first)
     for (uint8_t scheme = 1; scheme <= 4; scheme++) {
         measure_repeated(&subjects[1], scheme, rounds, first);
         measure_marked(&subjects[1], scheme, rounds, first);
-        measure_opening(&subjects[SIZES - 1], scheme, rounds, first);
     }
     for (int size = 0; size < SIZES; size++)
         free_subject(&subjects[size]);

@@ -25,9 +25,7 @@ look-ups, since these keys are public, and puts them in planes. Compiled by gcc 
 is built for plain x86-64. In the same runs all that they write was compared with the library's, byte for byte, decoding too and with both
 marks of the material, on each circuit measured, on one with gates that use one operand too, on one garbled with four run numbers other
 than 0, on one whose outputs are named, on 2,100 calls with a bit of an argument changed, with every scheme byte and with marks that are
-none. The library's check_opening was asked there too, of what they garbled: it refused where they refuse, and said yes exactly where the
-bytes were those that they write. What is measured has run number 0, the circuit's mark 43 48 and, where nothing else is said, the
-material's mark 47 48.
+none. What is measured has run number 0, the circuit's mark 43 48 and, where nothing else is said, the material's mark 47 48.
 """
 
 CHAINED = """Chained rounds: the library once more, made by `bench/chained`, with AES by SubBytes, ShiftRows, MixColumns and AddRoundKey one
@@ -40,12 +38,6 @@ has its turn like a baseline, and what it writes was compared in the same way.
 MARKED = """q = 4,000, with 128 outputs; the library, garbling and decoding with either mark of the material in turn. With 47 4A garble
 makes two hashes for each output and looks for two that are equal, and decode hashes each output's token. Decode's time has all that it
 checks first of circuit and material in it.
-"""
-
-OPENING = """q = {q:,}, with 128 outputs; the library, with either mark of the material: garble, and check_opening of what it wrote, in
-turn. Each time the answer was yes; with a byte changed in the middle or at the end it was no.
-
-The goal: check_opening takes at most 1.0 of garble's time.
 """
 
 FILES = """The program, q = {q:,}: milliseconds by the clock, the best of {rounds} in one run of `rust/benches/over_files.rs`. The library's call has
@@ -142,16 +134,6 @@ def marked_table(results):
     return table(["ns for a charged gate; decode: for an output", "47 48", "47 4A", "47 4A : 47 48"], rows)
 
 
-def opening_table(results, q):
-    rows = []
-    for mark, records in (("47 48", "colours"), ("47 4A", "hashes")):
-        for scheme in SCHEMES:
-            key = (f"opening-{records}", scheme, q)
-            bests = [f"{results.best(key, work):.1f}" for work in ("garble", "opening")]
-            rows.append([f"{mark}, scheme {scheme} ({SCHEMES[scheme]})"] + bests + [compared(results, key, "opening", "garble")])
-    return table(["ns for a charged gate", "garble", "check_opening", "check_opening : garble"], rows)
-
-
 def both_row(results, scheme, q):
     """Garble and evaluate together: the sums of the bests."""
     keys = [(f"{operation} over files", scheme, q) for operation in ("garble", "evaluate")]
@@ -198,8 +180,6 @@ def report(results):
         parts += [repeated_table(results)]
     if ("garble-marked", 3, 4000) in results.times:
         parts += ["## With hashes of the outputs' tokens", MARKED, marked_table(results)]
-    if ("opening-colours", 3, largest) in results.times:
-        parts += ["## What was garbled, opened", OPENING.format(q=largest), opening_table(results, largest)]
     if ("garble over files", 3, largest) in results.times:
         parts += over_files(results, largest)
     return "\n\n".join(wrapped(part) for part in parts) + "\n"

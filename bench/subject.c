@@ -15,8 +15,6 @@ struct worker workers[MOST_WORKERS] = {
 
 unsigned worker_count = 3;
 
-const uint16_t marks[MARKS] = {WEIGHHARE_COLOURS, WEIGHHARE_HASHES};
-
 void find_workers(void)
 {
     if (__builtin_cpu_supports("aes") && __builtin_cpu_supports("ssse3"))
@@ -66,7 +64,7 @@ struct subject make_subject(size_t q)
     s.circuit_length = 8 + 7 * q;
     s.material_room = 11 + 32 * OUTPUTS + s.p * (4 + 64);
     s.circuit = room(s.circuit_length);
-    s.material = room(s.material_room + 1); /* agree.c lends a byte more than garble wrote */
+    s.material = room(s.material_room);
     s.zeros = room(16 * s.wires);
     s.held = room(16 * s.wires);
     s.ones = room(16 * INPUTS);
@@ -158,15 +156,6 @@ void run_decode(const struct worker *w, struct subject *s)
     uint64_t answer[4];
     must(w, "decode", w->decode(s->circuit, s->circuit_length, s->outputs, 16 * OUTPUTS, s->material,
                                 s->material_length, s->bits, OUTPUTS, answer));
-}
-
-uint64_t run_opening(struct subject *s, uint8_t scheme)
-{
-    uint64_t answer[4];
-    must(&workers[0], "check_opening",
-         weighhare_check_opening(s->circuit, s->circuit_length, s->seed, 16, s->run, scheme, s->material,
-                                 s->material_length, s->zeros, 16 * s->wires, answer));
-    return answer[0];
 }
 
 void find_outputs(struct subject *s)

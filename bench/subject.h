@@ -34,10 +34,6 @@ struct subject {
 
 enum { INPUTS = 128, OUTPUTS = 128 };
 
-/* The material's marks: with colours, with hashes. */
-enum { MARKS = 2 };
-extern const uint16_t marks[MARKS];
-
 struct subject make_subject(size_t q);
 
 /* Turns every second free gate into one that uses one operand, of codes 3, 5, 10 and 12 by turns. What is measured has no
@@ -56,10 +52,6 @@ void run_check(const struct worker *w, struct subject *s);
 void run_garble(const struct worker *w, struct subject *s, uint8_t scheme);
 void run_evaluate(const struct worker *w, struct subject *s);
 void run_decode(const struct worker *w, struct subject *s);
-
-/* The library's check_opening of the material: 1 for yes, 0 for no; it ends the program where it is refused. Its scratch is
- * `zeros`, to which garble writes the same. */
-uint64_t run_opening(struct subject *s, uint8_t scheme);
 
 /* `outputs` gets the outputs' tokens: those that the library finds for `tokens`. */
 void find_outputs(struct subject *s);

@@ -1,8 +1,7 @@
 /*
  * An AND gate garbled, evaluated from its bytes and from a list of gates, and decoded, for each pair of input values:
- * all from one seed, each a run of its own. Then one with hashes, so that a token that was mistyped is refused; one
- * from a seed of its own, which is opened; the outputs of a circuit that names them; and three more refusals. C11, and
- * C++17 too.
+ * all from one seed, each a run of its own. Then one with hashes, so that a token that was mistyped is refused; the
+ * outputs of a circuit that names them; and three more refusals. C11, and C++17 too.
  */
 #define _DEFAULT_SOURCE /* explicit_bzero */
 #include "weighhare.h"
@@ -117,36 +116,6 @@ static int work_hashed(const uint8_t seed[16], uint64_t run) {
     return failed;
 }
 
-/* Says whether material is what half-gates give for a seed that was opened, in its run 0. Whether something refused. */
-static int check_opening(const char *which, const uint8_t seed[16], const uint8_t *material, size_t length) {
-    uint8_t scratch[3 * 16];
-    uint64_t answer[4];
-    int failed = refused("check_opening", weighhare_check_opening(and_gate, sizeof and_gate, seed, 16, 0,
-                                                                  WEIGHHARE_HALF_GATES, material, length, scratch,
-                                                                  sizeof scratch, answer), answer);
-    explicit_bzero(scratch, sizeof scratch);
-    /* That nothing refused is no yes: the answer says it. */
-    if (!failed) printf("opened, %s: %s\n", which, answer[0] == 1 ? "yes" : "no");
-    return failed;
-}
-
-/* A garbling that the garbler opens by naming its seed and run, which is the seed's only one: it is checked, and would
- * be used for nothing else. Then the same with one byte of a row changed. Whether something refused. */
-static int work_opened(const uint8_t seed[16]) {
-    uint8_t material[48], zeros[3 * 16], ones[2 * 16];
-    uint64_t answer[4];
-    size_t length;
-    if (refused("garble", weighhare_garble(and_gate, sizeof and_gate, seed, 16, 0, WEIGHHARE_HALF_GATES,
-                                           WEIGHHARE_COLOURS, material, sizeof material, zeros, sizeof zeros, ones,
-                                           sizeof ones, answer), answer)) return 1;
-    length = (size_t)answer[0];
-    explicit_bzero(zeros, sizeof zeros);
-    explicit_bzero(ones, sizeof ones);
-    if (check_opening("as it was garbled", seed, material, length)) return 1;
-    material[20] ^= 1;
-    return check_opening("with a byte changed", seed, material, length);
-}
-
 /* Which of the wires 1, 2, 3 each named output is, by tokens that tell them. Whether something refused. */
 static int work_named(void) {
     uint8_t wires[3 * 16], outputs[3 * 16];
@@ -161,15 +130,14 @@ static int work_named(void) {
 
 int main(void) {
     uint64_t answer[4];
-    uint8_t seed[16], opened[16];
+    uint8_t seed[16];
     int failed;
-    if (getrandom(seed, sizeof seed, 0) != 16 || getrandom(opened, sizeof opened, 0) != 16) {
+    if (getrandom(seed, sizeof seed, 0) != 16) {
         printf("no seed\n");
         return 1;
     }
-    failed = work_all(seed) || work_hashed(seed, 16) || work_opened(opened);
+    failed = work_all(seed) || work_hashed(seed, 16);
     explicit_bzero(seed, sizeof seed);
-    explicit_bzero(opened, sizeof opened);
     if (failed || work_named()) return 1;
     refused("check of 7 bytes", weighhare_check(and_gate, 7, answer), answer);
     refused("check of code 0", weighhare_check(no_gate, sizeof no_gate, answer), answer);

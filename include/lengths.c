@@ -42,25 +42,11 @@ static int garble_exact(wanted w, size_t m, const uint64_t sizes[4]) {
            exact(whole, garble(w, m, z, o - 1, answer), answer, o);
 }
 
-/* Whether the scratch of check_opening needs just this length, for the m bytes of material that garble wrote, which get
- * a yes. */
-static int opening_exact(wanted w, size_t m, const uint64_t sizes[4]) {
-    const size_t z = weighhare_wire_tokens_length(sizes);
-    uint64_t answer[4];
-    uint8_t less, whole = weighhare_check_opening(circuit, w.circuit_len, seed, 16, 0, w.scheme, material, m, zeros, z,
-                                                  answer);
-    if (answer[0] != 1) return 0;
-    less = weighhare_check_opening(circuit, w.circuit_len, seed, 16, 0, w.scheme, material, m, zeros, z - 1, answer);
-    return exact(whole, less, answer, z);
-}
-
 /* The same with either mark. */
 static int marks_exact(size_t c, uint8_t scheme, const uint64_t sizes[4]) {
     const wanted colours = {c, scheme, WEIGHHARE_COLOURS}, hashes = {c, scheme, WEIGHHARE_HASHES};
-    const size_t short_length = weighhare_material_length(sizes, scheme),
-                 long_length = weighhare_hashed_material_length(sizes, scheme);
-    return garble_exact(colours, short_length, sizes) && opening_exact(colours, short_length, sizes) &&
-           garble_exact(hashes, long_length, sizes) && opening_exact(hashes, long_length, sizes);
+    return garble_exact(colours, weighhare_material_length(sizes, scheme), sizes) &&
+           garble_exact(hashes, weighhare_hashed_material_length(sizes, scheme), sizes);
 }
 
 /* Whether schemes that there are not have no length. */

@@ -9,8 +9,7 @@
  *   - returns 0, or the number of the refusal (WEIGHHARE_.. below): the first condition that holds. Conditions are tried
  *     in rising number, 5 to 7 together as one search over the gates in file order, but that 21 to 24 come before all
  *     others, and 25 and 26 right after 7, together as one search over the output records in file order; an operation
- *     skips what it has no argument for. A condition on several lists or buffers is tried in the order of the
- *     arguments. Of weighhare_check_opening the number 0 is no yes: read answer[0];
+ *     skips what it has no argument for. A condition on several lists or buffers is tried in the order of the arguments;
  *   - sets all four words of `answer`. If it refuses, answer[0] is the refusal's place; else the words are its results.
  *     Words that are not used are 0;
  *   - leaves every output buffer as it was if it refuses, and else writes only the bytes named, at the front. There is
@@ -29,25 +28,21 @@
  *     which the two tokens of every wire differ. With different run numbers no block that comes from the seed, to make R
  *     or an input's tokens, is the same in both. How little one run tells of another rests on AES, and is not proved.
  *     Nothing here notices a run number that is used twice.
- *   - A seed that is opened must have no other run in use: whoever has the seed makes every run of it, with both
- *     tokens of every wire. So a garbling that may be opened has a seed of its own, and one that was opened is for no
- *     purchase.
  *   - A garbling is for one evaluation. Evaluated on two input lists it shows R wherever two tokens of a wire differ, and
  *     whoever has R makes each wire's other token from the one.
  *   - With the mark 43 49 any wire can be an output, an input too, and nothing refuses it: decoding then shows that
  *     input's bit, and for a middle wire the bit that it carries. Who garbles a circuit that somebody else wrote looks at
  *     its outputs first.
  *   - After use the garbler wipes the seed, `zeros` and `ones`, the evaluator its `tokens` and `wires`, and each its own
- *     values, and whoever checks an opening its `scratch`, unless the seed is public, by a call that a compiler does
- *     not drop, such as explicit_bzero. Nothing here wipes anything. What a function leaves on the stack is not wiped
- *     either.
+ *     values, by a call that a compiler does not drop, such as explicit_bzero. Nothing here wipes anything. What a
+ *     function leaves on the stack is not wiped either.
  *   - Secret are, at the garbler's, the seed, R, both tokens of every wire and the values; at the evaluator's, the
  *     tokens that it holds. The circuit, the material, lengths, the run number, the scheme, the mark and what is
  *     refused are not. In garble, encode and decode no look-up and no branch depends on a secret, but for two branches
  *     with the mark 47 4A: of garble on whether it refuses with 30, of decode on whether it refuses with 29. This is
  *     tested on the archive, for x86-64, under valgrind's memcheck, and not proved. evaluate, in both forms, is not
- *     constant-time, and what pick answers shows its bit: see there. To check_opening nothing is secret, since the seed
- *     has been opened. How long anything takes is promised of no function.
+ *     constant-time, and what pick answers shows its bit: see there. How long anything takes is promised of no
+ *     function.
  *
  * Below n, m, q and p are the circuit's inputs, outputs, gates and charged gates. Limits: n is 2 to 4,096, m is 1 to q,
  * with the mark 43 49 1 to n+q, q is at least 1, and n+q is at most 65,535. Wires are numbered from 1: the inputs 1 to n,
@@ -74,7 +69,7 @@
  * and no linker compares arguments: compile every object with the header that came with the archive. docs/CHANGES.md
  * has what each version changed.
  */
-#define WEIGHHARE_VERSION "0.12.0"
+#define WEIGHHARE_VERSION "0.11.0"
 
 #include <stddef.h>
 #include <stdint.h>
@@ -200,7 +195,7 @@ uint8_t weighhare_plain(const uint8_t *circuit, size_t circuit_len, const uint8_
  *   seed      16 bytes from getrandom(2) or another source of the system's random numbers, used for no other garbling
  *             with the same run number; secret, to wipe when its last garbling is made
  *   run       the run number: which of the seed's garblings this is; 0 for a seed that has one alone. Every number is
- *             taken. It stands in no file, and of the other functions only check_opening asks for it
+ *             taken. It stands in no file, and no other function asks for it
  *   scheme    1, 2, 3 or 4
  *   mark      WEIGHHARE_COLOURS or WEIGHHARE_HASHES: the mark that the material is to have; the tokens are the same
  *   material  output: 11 + m + p(4 + 16 rows) bytes, with 4, 3, 2, 2 rows in schemes 1, 2, 3, 4; with the mark 47 4A
@@ -247,8 +242,7 @@ uint8_t weighhare_encode(const uint8_t *circuit, size_t circuit_len, const uint8
  * A garbling is for one evaluation: a second, on another input list, shows R wherever two tokens of a wire differ.
  *
  * Material that somebody else made can be well-formed and wrong. No row is checked: a bad one still ends in some token,
- * which decode refuses, with the mark 47 4A, if it is an output's and not one of its two. weighhare_check_opening shows
- * whether a garbling that is opened is right, but then it is for no purchase.
+ * which decode refuses, with the mark 47 4A, if it is an output's and not one of its two.
  *
  *   circuit   the circuit's bytes
  *   tokens    16n bytes: a token for each input; to wipe after use
@@ -319,42 +313,6 @@ uint8_t weighhare_decode(const uint8_t *circuit, size_t circuit_len, const uint8
                          uint64_t answer[4]);
 
 /*
- * Checks a garbling that was opened: whether the material is, in its length and in every byte, what garble writes for
- * this circuit, seed, run number and scheme, with the mark that the material itself has.
- * Refusals 1 to 7, 25, 26, 8, 14, 19.
- *
- * **The number 0 is no yes: read answer[0].** It is 1 for yes and 0 for no, and the function returns 0 for both.
- *
- * Whatever is wrong with the material is a no and never a refusal: that it is empty, too short or too long, malformed,
- * without a known mark, or of another scheme, circuit, seed or run. 14 is about the argument alone. With the mark 47 4A
- * it is a no too where garble would refuse with 30. A no may cost what a yes costs.
- *
- * After a yes every input list, encoded with the tokens of this garbling, decodes to the plain bits. A yes says nothing
- * of the tokens that were given out, and nothing of garblings that were not opened. Where the circuit has no charged
- * gate, other seeds and runs may get a yes too: the material shows little of them.
- *
- * A seed that is opened must have no other run in use: whoever has the seed makes every run of it. And from then on the
- * garbling is for no purchase: whoever has the seed has both tokens of every wire. So the seller garbles several times,
- * each from a seed of its own, the other side draws which of them are opened, and evaluates one that was not
- * (docs/EXCHANGE.md).
- *
- * Nothing is secret here, since the seed has been opened. With a seed that is still secret nothing is promised of
- * look-ups and branches.
- *
- *   circuit   the circuit's bytes
- *   seed      16 bytes: the seed that was opened
- *   run       the run number that was named; every number is taken
- *   scheme    1, 2, 3 or 4: the scheme that was agreed on
- *   material  the material, as it arrived: any bytes
- *   scratch   output: 16(n+q) bytes to work in. After a yes or a no they are free, and may hold the zero tokens of all
- *             wires: to wipe, unless the seed is public
- *   answer    1 for yes or 0 for no, 0, 0, 0
- */
-uint8_t weighhare_check_opening(const uint8_t *circuit, size_t circuit_len, const uint8_t *seed, size_t seed_len,
-                                uint64_t run, uint8_t scheme, const uint8_t *material, size_t material_len,
-                                uint8_t *scratch, size_t scratch_len, uint64_t answer[4]);
-
-/*
  * Finds the token of one wire for one bit in the lists of zero and of one tokens. Refusals 10, 11, 20.
  *
  * No look-up and no branch depends on a token, which is tested and not proved. But the bit does not stay hidden: the
@@ -388,7 +346,7 @@ uint8_t weighhare_comparator(uint64_t width, uint8_t *circuit, size_t circuit_le
  * and not proved: where one were wrong, refusal 19 or 11 would say so.
  */
 
-/* A token for every wire, 16(n+q): garble's `zeros`, evaluate's `wires`, check_opening's `scratch`. */
+/* A token for every wire, 16(n+q): garble's `zeros`, evaluate's `wires`. */
 static inline size_t weighhare_wire_tokens_length(const uint64_t sizes[4]) { return (size_t)(16 * (sizes[0] + sizes[2])); }
 
 /* A token for every input, 16n: garble's `ones`, encode's `tokens`. */

@@ -216,7 +216,6 @@ impl Circuit {
     ///
     /// The three warnings of [`evaluate`](crate::evaluate) hold: it is not constant-time, and others on the same machine
     /// may learn the tokens; a garbling is for one evaluation; somebody else's material can be well-formed and wrong.
-    /// [`opens`](Self::opens) shows whether a garbling that is opened is right, but then it is for no purchase.
     ///
     /// # Errors
     ///
@@ -282,35 +281,5 @@ impl Circuit {
         let mut bits = vec![0; self.sizes.m];
         operations::decode(&self.bytes, tokens, material, &mut bits)?;
         Ok(bits)
-    }
-
-    /// Whether material is, byte for byte, what this circuit gives for a seed that was opened, its run number and a
-    /// scheme, with the mark that the material itself has. Nothing is refused: a malformed file is a no.
-    ///
-    /// A yes says nothing of the tokens that were given out, and nothing of garblings that were not opened. A seed that
-    /// is opened must have no other run in use, since whoever has the seed makes every run of it, and the garbling that
-    /// was opened is for no purchase. [`check_opening`](crate::check_opening) says more. The zero tokens that it works
-    /// with are wiped.
-    ///
-    /// ```
-    /// use weighhare::{Circuit, Scheme, Seed};
-    ///
-    /// // The seller opens a garbling: it names the seed and the run.
-    /// let circuit = Circuit::comparator(16)?;
-    /// let seed = Seed::draw()?;
-    /// let mut material = circuit.garble(&seed, 0, Scheme::HalfGates).material().to_vec();
-    ///
-    /// // The desk, which had the material before, checks it.
-    /// assert!(circuit.opens(&seed, 0, Scheme::HalfGates, &material));
-    /// material[20] ^= 1;
-    /// assert!(!circuit.opens(&seed, 0, Scheme::HalfGates, &material));
-    /// # Ok::<(), Box<dyn std::error::Error>>(())
-    /// ```
-    #[must_use]
-    pub fn opens(&self, seed: &Seed, run: u64, scheme: Scheme, material: &[u8]) -> bool {
-        let mut scratch = Secret::zeroed(self.sizes.wire_tokens_length());
-        let scheme = scheme.number();
-        let opened = operations::check_opening(&self.bytes, seed.bytes(), run, scheme, material, &mut scratch);
-        opened.expect("check_opening refuses no such arguments: its contract")
     }
 }

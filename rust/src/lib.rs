@@ -25,11 +25,6 @@
 //! token that is none of its output's two is refused, 29. That shows a token that was mistyped, mixed up or came of a
 //! damaged row; it does not show material whose garbler, or whoever changed it, exchanged an output's two hashes.
 //!
-//! Whether somebody else garbled rightly shows where it opens the garbling: it names the seed and the run, and
-//! [`Circuit::opens`] says yes exactly where the material is what garbling gives for them. An opened garbling is for no
-//! purchase. So of several, each from a seed of its own, those to be opened are drawn, and one that was not is
-//! evaluated. [`check_opening`] says what a yes does not say.
-//!
 //! Who wants to compare two figures needs to draw no circuit: [`Circuit::comparator`] makes it for their number of bits,
 //! [`figures_to_values`] turns figures into the values of its inputs, and [`values_figure`] turns values into a figure.
 //!
@@ -42,23 +37,20 @@
 //!   differ. With different run numbers no block that comes from the seed, to make R or an input's tokens, is the same in
 //!   both. How little one run tells of another rests on AES, and is not proved. Nothing here notices a run number that is
 //!   used twice.
-//! - A seed that is opened must have no other run in use: whoever has the seed makes every run of it, with both tokens
-//!   of every wire.
 //! - A garbling is for one evaluation. Evaluated on two input lists it shows R wherever two tokens of a wire differ, and
 //!   whoever has R makes each wire's other token from the one.
 //! - With the mark 43 49 any wire can be an output, an input too, and nothing refuses it: decoding then shows that input's
 //!   bit, and for a middle wire the bit that it carries. Who garbles a circuit that somebody else wrote looks at its outputs
 //!   first.
 //! - The layer that allocates wipes what it holds: the seed, the garbler's tokens, the evaluator's, and values. Who uses the
-//!   functions on slices wipes the seed, `zeros` and `ones`, `tokens` and `wires`, the values, and `scratch`, by a
-//!   write that a compiler does not drop, such as `write_volatile`. What a function leaves on the stack is not wiped.
+//!   functions on slices wipes the seed, `zeros` and `ones`, `tokens` and `wires`, and the values, by a write that a compiler
+//!   does not drop, such as `write_volatile`. What a function leaves on the stack is not wiped.
 //! - Secret are, at the garbler's, the seed, R, both tokens of every wire and the values; at the evaluator's, the
 //!   tokens that it holds. In the library's [`garble`], [`encode`] and [`decode`] no look-up and no branch depends on a
 //!   secret, but for two branches with the mark 47 4A: of garble on whether it refuses with 30, of decode on whether it
 //!   refuses with 29. This is tested on the archive, for x86-64, under valgrind's memcheck, and not proved.
 //!   [`evaluate`] and [`evaluate_gates`] are not constant-time, and which list [`pick`] reads depends on its bit: see
-//!   there. To [`check_opening`] nothing is secret, since the seed has been opened. This crate's own code is not tested
-//!   so, and how long anything takes is promised of no function.
+//!   there. This crate's own code is not tested so, and how long anything takes is promised of no function.
 //!
 //! # Example
 //!
@@ -105,8 +97,7 @@ pub use garbling::Garbling;
 pub use gate::Gate;
 pub use mark::Mark;
 pub use operations::{
-    check, check_opening, comparator, decode, encode, evaluate, evaluate_gates, garble, output_tokens, pick, plain,
-    Garbled,
+    check, comparator, decode, encode, evaluate, evaluate_gates, garble, output_tokens, pick, plain, Garbled,
 };
 pub use refusal::Refusal;
 pub use scheme::Scheme;

@@ -98,20 +98,6 @@ extern "C" {
         answer: *mut Answer,
     ) -> u8;
 
-    pub fn weighhare_check_opening(
-        circuit: *const u8,
-        circuit_len: usize,
-        seed: *const u8,
-        seed_len: usize,
-        run: u64,
-        scheme: u8,
-        material: *const u8,
-        material_len: usize,
-        scratch: *mut u8,
-        scratch_len: usize,
-        answer: *mut Answer, // 0 returned is no yes: the first word is 1 for yes, 0 for no
-    ) -> u8;
-
     pub fn weighhare_pick(
         zeros: *const u8,
         zeros_len: usize,

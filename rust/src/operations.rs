@@ -71,8 +71,7 @@ pub fn plain(circuit: &[u8], values: &[u8], wires: &mut [u8]) -> Result<(), Refu
 ///
 /// `seed` has 16 bytes, from `getrandom(2)` or another source of the system's random numbers; it is secret, and used for
 /// no other garbling with the same run number. `run` is the run number: which of the seed's garblings this is; 0 for a seed
-/// that has one alone. Every number is taken. It stands in no file, and of the other functions only [`check_opening`]
-/// asks for it.
+/// that has one alone. Every number is taken. It stands in no file, and no other function asks for it.
 ///
 /// `mark` is the mark that the material is to have, as a number: 0x4748 or 0x474A ([`Mark`](crate::Mark)). The tokens
 /// are the same with both.
@@ -202,7 +201,6 @@ pub fn encode(circuit: &[u8], values: &[u8], zeros: &[u8], ones: &[u8], tokens: 
 ///
 /// Material that somebody else made can be well-formed and wrong. No row is checked: a bad one still ends in some
 /// token, which [`decode`] refuses, with the mark 47 4A, if it is an output's and not one of its two.
-/// [`check_opening`] shows whether a garbling that is opened is right, but then it is for no purchase.
 ///
 /// # Errors
 ///
@@ -377,75 +375,6 @@ pub fn decode(circuit: &[u8], tokens: &[u8], material: &[u8], bits: &mut [u8]) -
         )
     };
     results(number, answer).map(|_| ())
-}
-
-/// Checks a garbling that was opened: true for yes, where `material` is, in its length and in every byte, what
-/// [`garble`] writes for this circuit, seed, run number and scheme, with the mark that the material itself has.
-///
-/// Whatever is wrong with the material is a no and never a refusal: that it is empty, too short or too long, malformed,
-/// without a known mark, or of another scheme, circuit, seed or run. With the mark 47 4A it is a no too where garble
-/// would refuse with 30. A no may cost what a yes costs.
-///
-/// After a yes every input list, encoded with the tokens of this garbling, decodes to the plain bits. A yes says
-/// nothing of the tokens that were given out, and nothing of garblings that were not opened. Where the circuit has no
-/// charged gate, other seeds and runs may get a yes too: the material shows little of them.
-///
-/// A seed that is opened must have no other run in use: whoever has the seed makes every run of it. And from then on
-/// the garbling is for no purchase: whoever has the seed has both tokens of every wire. So the seller garbles several
-/// times, each from a seed of its own, the other side draws which of them are opened, and evaluates one that was not
-/// (`docs/EXCHANGE.md` of the repository).
-///
-/// `scratch` has at least 16(n+q) bytes to work in. After a yes or a no these are free, and may hold the zero tokens of
-/// all wires: wipe them, unless the seed is public. Nothing is secret here, since the seed has been opened: with one
-/// that is still secret nothing is promised of look-ups and branches.
-///
-/// # Errors
-///
-/// Refusals 1 to 7, 25, 26, 8, 14, 19: 14 is about the argument alone.
-///
-/// ```
-/// # let circuit = [0x43, 0x48, 0, 2, 0, 1, 0, 1, 0x43, 0x47, 0, 1, 0, 2, 8];
-/// # let (mut material, mut zeros, mut ones) = ([0; 48], [0; 48], [0; 32]);
-/// # let _ = weighhare::garble(&circuit, &[7; 16], 5, 3, 0x4748, &mut material, &mut zeros, &mut ones)?;
-/// // Half-gates' material of an AND gate, from this seed in its run 5. It is not what run 6 gives.
-/// let mut scratch = [0; 48];
-/// assert!(weighhare::check_opening(&circuit, &[7; 16], 5, 3, &material, &mut scratch)?);
-/// assert!(!weighhare::check_opening(&circuit, &[7; 16], 6, 3, &material, &mut scratch)?);
-///
-/// // With a bit of a row changed it is a no; so is a file that is cut off.
-/// material[20] ^= 1;
-/// assert!(!weighhare::check_opening(&circuit, &[7; 16], 5, 3, &material, &mut scratch)?);
-/// assert!(!weighhare::check_opening(&circuit, &[7; 16], 5, 3, &material[..7], &mut scratch)?);
-/// # Ok::<(), weighhare::Refusal>(())
-/// ```
-#[must_use = "that nothing refused is no yes"]
-pub fn check_opening(
-    circuit: &[u8],
-    seed: &[u8],
-    run: u64,
-    scheme: u8,
-    material: &[u8],
-    scratch: &mut [u8],
-) -> Result<bool, Refusal> {
-    let mut answer = [0; 4];
-    // SAFETY: pointers and lengths are slices'; `scratch` and `answer` are borrowed alone.
-    let number = unsafe {
-        library::weighhare_check_opening(
-            circuit.as_ptr(),
-            circuit.len(),
-            seed.as_ptr(),
-            seed.len(),
-            run,
-            scheme,
-            material.as_ptr(),
-            material.len(),
-            scratch.as_mut_ptr(),
-            scratch.len(),
-            &mut answer,
-        )
-    };
-    let [yes, ..] = results(number, answer)?;
-    Ok(yes == 1)
 }
 
 /// The token of a wire for a bit: 16 bytes of one of the two lists.

@@ -43,8 +43,7 @@ impl Sizes {
         self.n.saturating_add(self.q)
     }
 
-    /// The bytes of a token for every wire, 16(n+q): garble's zero tokens, what evaluate writes, and check_opening's
-    /// scratch.
+    /// The bytes of a token for every wire, 16(n+q): garble's zero tokens, and what evaluate writes.
     ///
     /// ```
     /// assert_eq!(weighhare::Circuit::comparator(32)?.sizes().wire_tokens_length(), 16 * 189);

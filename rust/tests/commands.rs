@@ -9,7 +9,6 @@ mod commands {
     mod help;
     mod inputs;
     mod largest;
-    mod opened;
     mod outputs;
     mod places;
     mod refused;

@@ -5,7 +5,6 @@ mod program;
 mod exchange {
     mod claims;
     mod damage;
-    mod opened;
     mod page;
     mod readers;
     mod rows;

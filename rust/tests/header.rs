@@ -1,33 +1,15 @@
-//! The C header and this crate say the same: the version, the functions of the archive, each refusal's name, number and
-//! words, and the names and numbers of the schemes and of the material's marks.
+//! The C header and this crate say the same: the version, each refusal's name, number and words, and the names and
+//! numbers of the schemes and of the material's marks.
 
 use weighhare::{Mark, Refusal, Scheme};
 
 const HEADER: &str = include_str!("../../include/weighhare.h");
-const LIBRARY: &str = include_str!("../src/library.rs");
-const OPERATIONS: &str = include_str!("../src/operations.rs");
 const REFUSALS: &str = include_str!("../src/refusal.rs");
 
 #[test]
 fn one_version() {
     let line = concat!("#define WEIGHHARE_VERSION \"", env!("CARGO_PKG_VERSION"), "\"");
     assert!(HEADER.lines().any(|found| found == line), "no {line}");
-}
-
-/// The names that stand between these two at the beginning of a line.
-fn names<'a>(text: &'a str, before: &str, after: char) -> Vec<&'a str> {
-    let rest = text.lines().filter_map(|line| line.strip_prefix(before));
-    rest.filter_map(|rest| Some(rest.split_once(after)?.0)).collect()
-}
-
-/// In one order, each with a safe function of its name.
-#[test]
-fn one_list_of_functions() {
-    let declared = names(HEADER, "uint8_t weighhare_", '(');
-    assert_eq!(declared.len(), 11, "{declared:?}");
-    assert_eq!(names(LIBRARY, "    pub fn weighhare_", '('), declared);
-    let safe = OPERATIONS.replace("pick<'a>(", "pick(");
-    assert_eq!(names(&safe, "pub fn ", '('), declared);
 }
 
 /// The text after `start`, up to `end`.

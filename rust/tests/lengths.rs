@@ -39,12 +39,6 @@ fn a_byte_less_is_too_short() {
         weighhare::output_tokens(bytes, &wires, &mut short),
         Err(Refusal::Room { needed })
     );
-    let mut short = vec![0; sizes.wire_tokens_length() - 1];
-    let needed = sizes.wire_tokens_length();
-    assert_eq!(
-        weighhare::check_opening(bytes, &seed, 0, 3, &[], &mut short),
-        Err(Refusal::Room { needed })
-    );
     let mut short = vec![0; sizes.wires() - 1];
     let needed = sizes.wires();
     assert_eq!(

@@ -40,7 +40,6 @@ int read_case(FILE *file, struct call *call)
     read_exactly(file, numbers, sizeof numbers);
     read_exactly(file, &call->run, sizeof call->run);
     read_exactly(file, &call->width, sizeof call->width);
-    read_exactly(file, &call->free, sizeof call->free);
     read_exactly(file, call->words, sizeof call->words);
     call->operation = head[0], call->scheme = head[1], call->bit = head[2], call->number = head[3];
     call->wire = numbers[0], call->n = numbers[1], call->m = numbers[2], call->mark = numbers[3];

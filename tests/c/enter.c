@@ -30,8 +30,6 @@ uint8_t enter(const struct call *call, const struct lent *in, const struct lent 
         return weighhare_output_tokens(LIST(in[0]), LIST(in[1]), LIST(out[0]), answer);
     case DECODE:
         return weighhare_decode(LIST(in[0]), LIST(in[1]), LIST(in[2]), LIST(out[0]), answer);
-    case CHECK_OPENING:
-        return weighhare_check_opening(LIST(in[0]), LIST(in[1]), call->run, call->scheme, LIST(in[2]), LIST(out[0]), answer);
     case PICK:
         return weighhare_pick(LIST(in[0]), LIST(in[1]), call->wire, call->bit, answer);
     case COMPARATOR:

@@ -10,20 +10,13 @@
 #include "lend.h"
 #include "watch.h"
 
-/* Whether a lent buffer has these bytes from an index on. */
-static int same_from(const struct lent *lent, const uint8_t *bytes, size_t start)
-{
-    return lent->length <= start || memcmp(lent->at + start, bytes + start, lent->length - start) == 0;
-}
-
 /* Whether a lent buffer has these bytes. */
 static int same(const struct lent *lent, const uint8_t *bytes)
 {
-    return same_from(lent, bytes, 0);
+    return lent->length == 0 || memcmp(lent->at, bytes, lent->length) == 0;
 }
 
-/* Runs one case at a place; 1 if the answer, the lists and the whole output buffers are as they must be, but for the bytes
- * that may hold anything. */
+/* Runs one case at a place; 1 if the answer, the lists and the whole output buffers are as they must be. */
 static int run_case(const struct call *call, enum place place)
 {
     struct lent in[MOST_LISTS], out[MOST_OUTPUTS];
@@ -41,7 +34,7 @@ static int run_case(const struct call *call, enum place place)
         take_back(&in[i]);
     }
     for (size_t i = 0; i < call->outputs; i++) {
-        fine = fine && same_from(&out[i], call->after[i].at, i == 0 ? call->free : 0);
+        fine = fine && same(&out[i], call->after[i].at);
         take_back(&out[i]);
     }
     take_back(&answer);

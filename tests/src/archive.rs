@@ -2,7 +2,7 @@
 //! which has no unsafe code and nothing of the proved library: the programs that link the archive
 //! take it in by its path.
 
-use second::call::{without_free, Call, Operation};
+use second::call::{Call, Operation};
 use second::interface::{self, Answer};
 
 /// Bytes kept before and after every buffer, to see whether something was written beside it.
@@ -80,12 +80,10 @@ pub fn run(call: &Call, before: &[Vec<u8>], skew: usize) -> Result<Answer, Strin
             .ok_or(format!("wrote beside output buffer {index}"))?;
         buffers.push(bytes.to_vec());
     }
-    let free = if number == 0 { call.free() } else { 0 };
     Ok(Answer {
         number,
         words,
-        buffers: without_free(buffers, free),
-        free,
+        buffers,
     })
 }
 
@@ -118,8 +116,6 @@ unsafe fn enter(call: &Call, inputs: &[List], outs: &[List], answer: &mut librar
             library::weighhare_output_tokens(c, cl, w, wl, t, tl, answer),
         (Operation::Decode, &[(c, cl), (t, tl), (m, ml)], &[(b, bl)]) =>
             library::weighhare_decode(c, cl, t, tl, m, ml, b, bl, answer),
-        (Operation::CheckOpening, &[(c, cl), (s, sl), (m, ml)], &[(k, kl)]) =>
-            library::weighhare_check_opening(c, cl, s, sl, call.run, call.scheme, m, ml, k, kl, answer),
         (Operation::Pick, &[(z, zl), (o, ol)], []) =>
             library::weighhare_pick(z, zl, o, ol, call.wire, call.bit, answer),
         (Operation::Comparator, [], &[(c, cl)]) =>

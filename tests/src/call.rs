@@ -1,14 +1,13 @@
 //! Calls as values: an operation with all it is handed, and what came of it. Any implementation
 //! that can run a call can be compared with this one.
 
-use crate::block::BLOCK;
 use crate::circuit::{Circuit, Gate, Sizes};
 use crate::comparator::comparator;
 use crate::material::Mark;
 use crate::operations::{self as op, Wanted};
 use crate::refused::Refused;
 
-/// An operation (01, Operations; 02, jobs 1, 8, 10 and 12).
+/// An operation (01, Operations; 02, jobs 1, 8 and 12).
 #[derive(Clone, Copy, Debug, Default, PartialEq, Eq, PartialOrd, Ord)]
 pub enum Operation {
     /// Check.
@@ -28,8 +27,6 @@ pub enum Operation {
     OutputTokens,
     /// Decode.
     Decode,
-    /// The check of an opening.
-    CheckOpening,
     /// Pick.
     Pick,
     /// The comparator of a width.
@@ -38,7 +35,7 @@ pub enum Operation {
 
 impl Operation {
     /// All operations.
-    pub const ALL: [Operation; 11] = [
+    pub const ALL: [Operation; 10] = [
         Operation::Check,
         Operation::Plain,
         Operation::Garble,
@@ -47,7 +44,6 @@ impl Operation {
         Operation::EvaluateGates,
         Operation::OutputTokens,
         Operation::Decode,
-        Operation::CheckOpening,
         Operation::Pick,
         Operation::Comparator,
     ];
@@ -62,8 +58,7 @@ impl Operation {
 
     /// The numbers of the refusals that the operation has arguments for, in the order in which they are
     /// tried: 25 and 26 come right after 7, and 21 comes first of all. Garble's 30 is left out: it needs two
-    /// tokens with the same hash, and no run is known that has them. The check of an opening has none of what
-    /// its material is.
+    /// tokens with the same hash, and no run is known that has them.
     pub fn refusals(self) -> &'static [u8] {
         match self {
             Operation::Check => &[1, 2, 3, 4, 5, 6, 7, 25, 26],
@@ -76,7 +71,6 @@ impl Operation {
             Operation::Decode => &[
                 1, 2, 3, 4, 5, 6, 7, 25, 26, 11, 12, 13, 14, 15, 16, 17, 18, 19, 29,
             ],
-            Operation::CheckOpening => &[1, 2, 3, 4, 5, 6, 7, 25, 26, 8, 14, 19],
             Operation::EvaluateGates => &[3, 6, 7, 11, 12, 13, 14, 15, 16, 17, 18, 19],
             Operation::OutputTokens => &[1, 2, 3, 4, 5, 6, 7, 25, 26, 11, 19],
             Operation::Pick => &[10, 11, 20],
@@ -121,11 +115,11 @@ pub struct Call {
     pub m: u16,
     /// The gates of the list form.
     pub gates: Vec<Gate>,
-    /// The seed of garble and of an opening.
+    /// Garble's seed.
     pub seed: Vec<u8>,
-    /// The run number of garble and of an opening.
+    /// Garble's run number.
     pub run: u64,
-    /// The scheme byte of garble and of an opening.
+    /// Garble's scheme byte.
     pub scheme: u8,
     /// The mark of the material that garble is to make.
     pub mark: u16,
@@ -137,7 +131,7 @@ pub struct Call {
     pub one: Vec<u8>,
     /// The tokens of evaluate and decode; those of all wires, which the operation for the outputs' takes.
     pub tokens: Vec<u8>,
-    /// The material of evaluate and decode, and that which is opened.
+    /// The material of evaluate and decode.
     pub material: Vec<u8>,
     /// Pick's wire.
     pub wire: u16,
@@ -145,7 +139,7 @@ pub struct Call {
     pub bit: u8,
     /// The comparator's width.
     pub width: u64,
-    /// The lengths of the output buffers, in 01's order. The scratch of an opening is one.
+    /// The lengths of the output buffers, in 01's order.
     pub lens: Vec<usize>,
     /// What every byte of the output buffers is before the call.
     pub fill: u8,
@@ -181,22 +175,10 @@ impl Default for Call {
 #[derive(Clone, Debug, PartialEq, Eq)]
 pub struct Outcome {
     /// The numbers returned (check: n, m, q, p; garble: length, calls; evaluate: calls; the comparator:
-    /// length; an opening: 1 for yes and 0 for no; the others none), or the refusal.
+    /// length; the others none), or the refusal.
     pub answer: Result<Vec<u64>, Refused>,
     /// The whole output buffers after the call; for pick, the part.
     pub buffers: Vec<Vec<u8>>,
-    /// How many bytes at the front of the first buffer are free: a call may leave anything there (02, job 10).
-    /// They stand in `buffers` as zeros, so that outcomes with the same bytes in all other places are equal.
-    pub free: usize,
-}
-
-/// The buffers with zeros for the free bytes at the front of the first.
-pub fn without_free(mut buffers: Vec<Vec<u8>>, free: usize) -> Vec<Vec<u8>> {
-    if let Some(first) = buffers.first_mut() {
-        let free = free.min(first.len());
-        first[..free].fill(0);
-    }
-    buffers
 }
 
 impl Call {
@@ -204,14 +186,6 @@ impl Call {
     pub fn buffers(&self) -> Vec<Vec<u8>> {
         let buffer = |&len: &usize| vec![self.fill; len];
         self.lens.iter().map(buffer).collect()
-    }
-
-    /// How many bytes at the front of the first output buffer are free, where the call is not refused.
-    pub fn free(&self) -> usize {
-        match (self.operation, self.read_circuit()) {
-            (Operation::CheckOpening, Ok(circuit)) => BLOCK * circuit.sizes().wires(),
-            _ => 0,
-        }
     }
 
     /// The circuit handed in, as bytes or as a list.
@@ -232,7 +206,6 @@ impl Call {
         match self.operation {
             Operation::Check => self.run_check(),
             Operation::Garble => self.run_garble(buffers),
-            Operation::CheckOpening => self.run_check_opening(buffers),
             Operation::Pick => self.run_pick(),
             _ => self.run_with_one_buffer(buffers),
         }
@@ -246,7 +219,6 @@ impl Call {
         Outcome {
             answer: op::check(&self.circuit).map(numbers),
             buffers: Vec::new(),
-            free: 0,
         }
     }
 
@@ -261,11 +233,7 @@ impl Call {
         };
         let garbled = op::garble(&self.circuit, &self.seed, wanted, material, zeros, ones);
         let answer = garbled.map(|garbled| vec![garbled.length, garbled.calls]);
-        Outcome {
-            answer,
-            buffers,
-            free: 0,
-        }
+        Outcome { answer, buffers }
     }
 
     fn run_pick(&self) -> Outcome {
@@ -275,21 +243,6 @@ impl Call {
         Outcome {
             answer: answer.map(|()| Vec::new()),
             buffers: vec![part.to_vec()],
-            free: 0,
-        }
-    }
-
-    fn run_check_opening(&self, buffers: Vec<Vec<u8>>) -> Outcome {
-        let [scratch] = buffers.as_slice() else {
-            panic!("an opening has one output buffer");
-        };
-        let (circuit, seed, material) = (&self.circuit, &self.seed, &self.material);
-        let opened = op::check_opening(circuit, seed, self.run, self.scheme, material, scratch);
-        let free = opened.map_or(0, |_| self.free());
-        Outcome {
-            answer: opened.map(|yes| vec![u64::from(yes)]),
-            buffers: without_free(buffers, free),
-            free,
         }
     }
 
@@ -314,14 +267,10 @@ impl Call {
             Operation::OutputTokens => op::output_tokens(circuit, tokens, out).map(nothing),
             Operation::Decode => op::decode(circuit, tokens, material, out).map(nothing),
             Operation::Comparator => comparator(self.width, out).map(|length| vec![length]),
-            Operation::Check | Operation::Garble | Operation::CheckOpening | Operation::Pick => {
+            Operation::Check | Operation::Garble | Operation::Pick => {
                 unreachable!("run sends these elsewhere")
             }
         };
-        Outcome {
-            answer,
-            buffers,
-            free: 0,
-        }
+        Outcome { answer, buffers }
     }
 }

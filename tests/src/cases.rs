@@ -2,7 +2,7 @@
 
 use std::collections::BTreeMap;
 
-use crate::call::{without_free, Call, Operation, Outcome};
+use crate::call::{Call, Operation, Outcome};
 use crate::circuit::Gate;
 use crate::hex;
 use crate::lines;
@@ -253,7 +253,7 @@ impl Fields {
                     call.lens = lens.into_iter().map(|len| len as usize).collect();
                 }
                 "id" | "op" | "aim" | "gates_repeat" => {}
-                "ok" | "refused" | "bufs" | "part" | "free" => {}
+                "ok" | "refused" | "bufs" | "part" => {}
                 other => return Err(format!("unknown field {other:?}")),
             }
         }
@@ -287,15 +287,7 @@ impl Fields {
             // Refused: the buffers are as they were.
             (_, Err(_)) => call.buffers(),
         };
-        let free = match self.0.contains_key("free") {
-            true => self.number("free")?,
-            false => 0,
-        };
-        Ok(Outcome {
-            answer,
-            buffers: without_free(buffers, free),
-            free,
-        })
+        Ok(Outcome { answer, buffers })
     }
 }
 
@@ -309,7 +301,6 @@ fn operation(op: &str) -> Result<Operation, String> {
         "evaluate" => Operation::Evaluate,
         "evaluate_list" => Operation::EvaluateGates,
         "decode" => Operation::Decode,
-        "opened" => Operation::CheckOpening,
         "pick" => Operation::Pick,
         _ => return Err(format!("unknown operation {op:?}")),
     })

@@ -6,7 +6,6 @@ pub mod edges;
 pub mod hashes;
 pub mod limits;
 pub mod mixed;
-pub mod openings;
 pub mod outputs;
 
 use crate::block::{Block, Colour, BLOCK};
@@ -19,7 +18,6 @@ use crate::random::Random;
 use crate::scheme::Scheme;
 
 use hashes::any_mark;
-use openings::{any_opening, own};
 use outputs::any_outputs;
 
 // 01's codes. The stored files of cases are drawn from these two lists: a longer one would change
@@ -127,8 +125,8 @@ pub fn run(random: &mut Random) -> u64 {
     }
 }
 
-/// Draws a run number for a call of garble. It is drawn apart from the other arguments: the stored cases of 01
-/// and of 02's job 2 have none. That of an opening goes with its material (module `openings`).
+/// Draws a run number for a call of garble; no other operation takes one. It is drawn apart from the
+/// other arguments: the stored cases of 01 and of 02's job 2 have none.
 pub fn add_run(random: &mut Random, call: &mut Call) {
     if call.operation == Operation::Garble {
         call.run = run(random);
@@ -203,7 +201,7 @@ pub fn call(random: &mut Random, operation: Operation) -> Call {
 }
 
 /// A call of the operation that is not refused, on a circuit of all codes and either mark, by any scheme and
-/// with material of either mark; of garble and of an opening in any run. About half of the openings are a yes.
+/// with material of either mark; of garble in any run.
 pub fn any_call(random: &mut Random, operation: Operation) -> Call {
     let bytes = any_small_circuit(random);
     let bytes = any_outputs(random, operation, bytes);
@@ -211,12 +209,11 @@ pub fn any_call(random: &mut Random, operation: Operation) -> Call {
     any_scheme(random, &mut call);
     any_mark(random, &mut call);
     add_run(random, &mut call);
-    any_opening(random, &mut call);
     call
 }
 
 /// A call of the operation on an accepted circuit, not refused, by a scheme of 01 and with the mark 47 48;
-/// buffers have some bytes to spare. Of garble and of an opening it is in run 0, and the opening is a yes.
+/// buffers have some bytes to spare. Of garble it is in run 0.
 pub fn call_on(random: &mut Random, operation: Operation, bytes: &[u8]) -> Call {
     let circuit = Circuit::read(bytes).expect("an accepted circuit");
     let Sizes { n, m, .. } = circuit.sizes();
@@ -242,11 +239,6 @@ pub fn call_on(random: &mut Random, operation: Operation, bytes: &[u8]) -> Call 
         }
         Operation::OutputTokens => call.tokens = tokens(random, circuit.sizes().wires()),
         Operation::Decode => add_material(random, &mut call, &circuit, m),
-        Operation::CheckOpening => {
-            call.seed = seed(random);
-            call.scheme = random.between(1, 3) as u8;
-            call.material = own(&call, Mark::Colours);
-        }
         Operation::Pick => add_lists(random, &mut call, n),
         Operation::Comparator => call.width = random.between(1, 64) as u64,
     }
@@ -284,18 +276,14 @@ fn any_material(random: &mut Random, circuit: &Circuit, scheme: Scheme) -> Vec<u
     }
 }
 
-/// The sound call by scheme 4 (02, job 7), where its operation has a scheme: garble's argument, the material, or
-/// for an opening both. It is drawn apart from the other arguments: the stored cases of 01 and of 02's jobs 2 and 4
+/// The sound call by scheme 4 (02, job 7), where its operation has a scheme: garble's argument, or the
+/// material. It is drawn apart from the other arguments: the stored cases of 01 and of 02's jobs 2 and 4
 /// have schemes 1 to 3.
 pub fn rekey(random: &mut Random, call: &mut Call) {
     let before = room(call).expect("a sound call");
     let circuit = call.read_circuit();
     match (call.operation, circuit) {
         (Operation::Garble, _) => call.scheme = Scheme::RekeyedHalfGates.byte(),
-        (Operation::CheckOpening, _) => {
-            call.scheme = Scheme::RekeyedHalfGates.byte();
-            call.material = own(call, Mark::Colours);
-        }
         (Operation::Evaluate | Operation::EvaluateGates | Operation::Decode, Ok(circuit)) => {
             call.material = any_material(random, &circuit, Scheme::RekeyedHalfGates);
         }

@@ -18,8 +18,6 @@ pub struct Answer {
     pub words: [u64; WORDS],
     /// The whole output buffers.
     pub buffers: Vec<Vec<u8>>,
-    /// How many bytes at the front of the first buffer are free; they stand there as zeros.
-    pub free: usize,
 }
 
 /// The operation's name, as in its C function.
@@ -33,7 +31,6 @@ pub fn name(operation: Operation) -> &'static str {
         Operation::EvaluateGates => "evaluate_gates",
         Operation::OutputTokens => "output_tokens",
         Operation::Decode => "decode",
-        Operation::CheckOpening => "check_opening",
         Operation::Pick => "pick",
         Operation::Comparator => "comparator",
     }
@@ -53,7 +50,6 @@ pub fn inputs(call: &Call) -> Vec<(&'static str, Vec<u8>)> {
         Operation::Evaluate | Operation::Decode => vec![circuit, tokens, material],
         Operation::EvaluateGates => vec![("gates", &gates), tokens, material],
         Operation::OutputTokens => vec![circuit, ("wires", &call.tokens)],
-        Operation::CheckOpening => vec![circuit, ("seed", &call.seed), material],
         Operation::Pick => vec![zero, one],
         Operation::Comparator => vec![],
     };
@@ -95,11 +91,11 @@ pub fn answer(outcome: Outcome) -> Answer {
         Ok(results) => (0, words(&results)),
         Err(Refused { number, place }) => (number, words(&[place])),
     };
+    let buffers = outcome.buffers;
     Answer {
         number,
         words,
-        buffers: outcome.buffers,
-        free: outcome.free,
+        buffers,
     }
 }
 
@@ -137,6 +133,5 @@ fn picked(call: &Call) -> Answer {
         number,
         words,
         buffers: Vec::new(),
-        free: 0,
     }
 }

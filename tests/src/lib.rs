@@ -1,4 +1,4 @@
-//! A second implementation of document 01 ("01" below) with jobs 1, 2, 4, 7, 8, 10 and 12 of document 02
+//! A second implementation of document 01 ("01" below) with jobs 1, 2, 4, 7, 8 and 12 of document 02
 //! ("02"), written from the papers alone, and what the tests need around it: calls as values, a reader of
 //! stored cases and a generator of new ones.
 
@@ -27,7 +27,6 @@ pub mod listed;
 pub mod material;
 pub mod named;
 pub mod one_operand;
-pub mod opening;
 pub mod operations;
 pub mod program;
 pub mod random;

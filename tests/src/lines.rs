@@ -86,10 +86,6 @@ fn arguments(call: &Call) -> Vec<Vec<u8>> {
             let setting = setting(&[call.fill], call);
             vec![circuit, call.tokens.clone(), call.material.clone(), setting]
         }
-        Operation::CheckOpening => {
-            let setting = setting(&[call.scheme, call.fill], call);
-            vec![circuit, call.seed.clone(), setting, call.material.clone()]
-        }
         Operation::EvaluateGates => {
             let (list, setting) = (gate_list(call), setting(&[call.fill], call));
             vec![list, call.tokens.clone(), call.material.clone(), setting]
@@ -103,8 +99,8 @@ fn arguments(call: &Call) -> Vec<Vec<u8>> {
 }
 
 /// The fields of a call and of what must come of it: the arguments, the answer, the buffers after the
-/// call. Those of garble, encode, evaluate, decode and an opening are left out after a refusal, which leaves
-/// them as they were. Of the scratch of an opening the line has what comes after the free bytes.
+/// call. Those of garble, encode, evaluate and decode are left out after a refusal, which leaves
+/// them as they were.
 fn fields(call: &Call, expected: &Outcome) -> Vec<Vec<u8>> {
     let mut fields = arguments(call);
     fields.push(answer(&expected.answer));
@@ -115,14 +111,9 @@ fn fields(call: &Call, expected: &Outcome) -> Vec<Vec<u8>> {
             | Operation::Evaluate
             | Operation::EvaluateGates
             | Operation::Decode
-            | Operation::CheckOpening
     );
     if !(left_out && expected.answer.is_err()) {
-        let mut buffers = expected.buffers.clone();
-        if let Some(first) = buffers.first_mut() {
-            first.drain(..expected.free);
-        }
-        fields.extend(buffers);
+        fields.extend(expected.buffers.clone());
     }
     fields
 }
@@ -137,14 +128,12 @@ pub fn case(call: &Call, expected: &Outcome) -> String {
     line(&fields(call, expected))
 }
 
-/// The line of a garbling or an opening that has its run number. It has no argument of a mark, and a garbling is
-/// of 47 48.
+/// The line of a garbling that has its run number. It is of mark 47 48.
 pub fn case_with_run(call: &Call, expected: &Outcome) -> String {
-    let has_run = matches!(call.operation, Operation::Garble | Operation::CheckOpening);
-    assert!(has_run, "no other has a run");
+    assert_eq!(call.operation, Operation::Garble, "no other has a run");
     assert_eq!(call.mark, NO_MARK, "a line that has no mark");
     let mut fields = fields(call, expected);
-    add_run(&mut fields[SETTING], call.run);
+    add_run(&mut fields[GARBLE_SETTING], call.run);
     line(&fields)
 }
 
@@ -152,16 +141,16 @@ pub fn case_with_run(call: &Call, expected: &Outcome) -> String {
 pub fn case_with_mark(call: &Call, expected: &Outcome) -> String {
     assert_eq!(call.operation, Operation::Garble, "no other has a mark");
     let mut fields = fields(call, expected);
-    add_run(&mut fields[SETTING], call.run);
-    add_mark(&mut fields[SETTING], call.mark);
+    add_run(&mut fields[GARBLE_SETTING], call.run);
+    add_mark(&mut fields[GARBLE_SETTING], call.mark);
     line(&fields)
 }
 
-/// Which field of the line of a garbling or of an opening is the setting.
-const SETTING: usize = 2;
+/// Which field of a garbling's line is the setting.
+const GARBLE_SETTING: usize = 2;
 
-/// Adds the run number to the setting of a garbling, of an opening or of a chain: 8 bytes, big-endian, at its end
-/// (02, job 4). A setting without these is of run 0.
+/// Adds the run number to the setting of a garbling or of a chain: 8 bytes, big-endian, at its end (02,
+/// job 4). A setting without these is of run 0.
 pub fn add_run(setting: &mut Vec<u8>, run: u64) {
     setting.extend(run.to_be_bytes());
 }
@@ -198,7 +187,6 @@ pub fn list_case(line: &str) -> Option<(Call, Outcome)> {
         0 => Outcome {
             answer: Ok(numbers),
             buffers: after.to_vec(),
-            free: 0,
         },
         number => Outcome {
             answer: Err(Refused {
@@ -206,7 +194,6 @@ pub fn list_case(line: &str) -> Option<(Call, Outcome)> {
                 place: *numbers.first()?,
             }),
             buffers: call.buffers(),
-            free: 0,
         },
     };
     Some((call, outcome))

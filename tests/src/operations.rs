@@ -1,4 +1,4 @@
-//! The operations on lent bytes (01, Operations; 02, jobs 4, 8, 10 and 12). Conditions are tried in rising number, 25
+//! The operations on lent bytes (01, Operations; 02, jobs 4, 8 and 12). Conditions are tried in rising number, 25
 //! and 26 right after 7, and nothing is written before the last of them. Garble's 30 alone changes buffers.
 
 use crate::block::{Block, Colour, BLOCK};
@@ -6,7 +6,7 @@ use crate::cipher::Cipher;
 use crate::circuit::{Circuit, Gate, Kind, Sizes, Truth};
 use crate::material::{self, read_mark, read_scheme, Last, Mark, Material};
 use crate::refused::{refuse_if, Refused};
-use crate::scheme::{output_hash, Evaluator, Garbler, Scheme};
+use crate::scheme::{output_hash, Evaluator, Garbler};
 use crate::token::Seed;
 
 /// What garbling is asked for beside the circuit and the seed. No run number is refused.
@@ -98,44 +98,20 @@ pub fn garble(
     check_room(zeros, BLOCK * sizes.wires())?;
     check_room(ones, BLOCK * sizes.n)?;
 
-    let made = make(&circuit, Seed::new(seed, wanted.run), scheme, mark);
-    let bytes: [&[u8]; 3] = [&made.material, &made.zeros, &made.ones];
-    leave(bytes, [material, zeros, ones], made.clash)?;
-    Ok(Garbled {
-        length: length as u64,
-        calls: made.calls,
-    })
-}
-
-/// What a garbling defines.
-struct Made {
-    material: Vec<u8>,
-    /// The zero tokens of all wires.
-    zeros: Vec<u8>,
-    /// The one tokens of the inputs.
-    ones: Vec<u8>,
-    /// Refusal 30, where an output's two hashes are equal.
-    clash: Result<(), Refused>,
-    /// The encryptions that the scheme made.
-    calls: u64,
-}
-
-/// Garbles the circuit.
-fn make(circuit: &Circuit, seed: Seed, scheme: Scheme, mark: Mark) -> Made {
-    let mut garbler = Garbler::new(scheme, seed);
-    let (rows, zero_tokens) = garble_wires(circuit, &mut garbler);
+    let mut garbler = Garbler::new(scheme, Seed::new(seed, wanted.run));
+    let (rows, zero_tokens) = garble_wires(&circuit, &mut garbler);
     let last = garble_outputs(mark, &circuit.of_outputs(&zero_tokens), &mut garbler);
     let clash = last.clash();
-    let material = Material { scheme, rows, last }.to_bytes(circuit);
+    let file = Material { scheme, rows, last }.to_bytes(&circuit);
     let one_token = |&zero: &Block| garbler.token(zero, Truth(true)).0;
-    let inputs = &zero_tokens[..circuit.sizes().n];
-    Made {
-        material,
-        zeros: zero_tokens.iter().flat_map(|token| token.0).collect(),
-        ones: inputs.iter().flat_map(one_token).collect(),
-        clash,
+    let one_tokens: Vec<u8> = zero_tokens[..sizes.n].iter().flat_map(one_token).collect();
+    let zero_tokens: Vec<u8> = zero_tokens.iter().flat_map(|token| token.0).collect();
+    let made: [&[u8]; 3] = [&file, &zero_tokens, &one_tokens];
+    leave(made, [material, zeros, ones], clash)?;
+    Ok(Garbled {
+        length: length as u64,
         calls: garbler.calls(),
-    }
+    })
 }
 
 /// What a garbling leaves at the front of its buffers: the bytes made, or where it clashes, which is refusal 30,
@@ -297,29 +273,6 @@ fn by_hashes(tokens: &[Block], hashes: &[[Block; 2]]) -> Result<Vec<bool>, Refus
         agrees.map(|bit| bit == 1).ok_or(Refused::new(29, k))
     };
     outputs.map(bit).collect()
-}
-
-/// The check of an opening: whether the material is, in every byte and in its length, the one that garbling from
-/// these arguments defines, by the material's own mark. Where garbling would give 30 it is not. What the material
-/// is refuses nothing: a file without a mark is one that no garbling defines (02, jobs 10 and 12). The material
-/// due is made anew here, so of the scratch nothing but its length is looked at.
-pub fn check_opening(
-    circuit: &[u8],
-    seed: &[u8],
-    run: u64,
-    scheme: u8,
-    material: &[u8],
-    scratch: &[u8],
-) -> Result<bool, Refused> {
-    let circuit = Circuit::read(circuit)?;
-    let seed = read_seed(seed)?;
-    let scheme = read_scheme(scheme)?;
-    check_room(scratch, BLOCK * circuit.sizes().wires())?;
-    let Some(mark) = Mark::of(material) else {
-        return Ok(false);
-    };
-    let made = make(&circuit, Seed::new(seed, run), scheme, mark);
-    Ok(made.clash.is_ok() && made.material == material)
 }
 
 /// The check of pick's arguments.

@@ -17,7 +17,6 @@ use crate::lines;
 use crate::listed;
 use crate::named;
 use crate::one_operand;
-use crate::opening;
 use crate::random::Random;
 use crate::rekeyed;
 use crate::runs;
@@ -157,7 +156,6 @@ pub fn files() -> Vec<File> {
     for (name, text) in hashed_cases().into_iter().chain(filled_cases()) {
         add(name, text);
     }
-    add("opening", opening::cases());
     files.extend(wrong::files(&files));
     files
 }

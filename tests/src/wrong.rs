@@ -68,12 +68,8 @@ enum Right {
     Done,
     /// Not refused, and no number that is answered is 0.
     Counted,
-    /// Not refused, and every number that is answered is 0.
-    Zero,
     /// Not refused, in buffers that are longer than what is written.
     Spare,
-    /// Not refused, with bytes in each buffer that the line has, which has only those past what is written.
-    Past,
     /// Not refused, and what is written is the fill: of this buffer no answer says anything wrong.
     Fill,
 }
@@ -161,14 +157,12 @@ impl Form {
             Right::Refused => refused,
             Right::RefusedBy(call) => self.answer_of(case)[0] == call,
             Right::Kept => refused && buffers.all(|bytes| !bytes.is_empty()),
-            Right::Past => !refused && buffers.all(|bytes| !bytes.is_empty()),
             Right::NoRoom => refused && self.lengths(case).iter().all(|&byte| byte == 0),
             Right::Done => !refused,
             Right::Counted => {
                 let mut numbers = self.answer_of(case)[1..].chunks(4);
                 !refused && numbers.all(|number| number != [0; 4])
             }
-            Right::Zero => !refused && self.answer_of(case)[1..].iter().all(|&byte| byte == 0),
             Right::Spare => {
                 let longer = |(bytes, written): (&[u8], usize)| bytes.len() > written;
                 !refused && buffers.zip(self.written(case)).all(longer)

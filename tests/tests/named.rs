@@ -20,7 +20,7 @@ use second::random::Random;
 use sides::{Side, SIDES};
 
 /// The operations that take a circuit's bytes, each with the first condition that it tries after the circuit's.
-const WITH_BYTES: [(Operation, Option<u8>); 8] = [
+const WITH_BYTES: [(Operation, Option<u8>); 7] = [
     (Operation::Check, None),
     (Operation::Plain, Some(9)),
     (Operation::Garble, Some(8)),
@@ -28,7 +28,6 @@ const WITH_BYTES: [(Operation, Option<u8>); 8] = [
     (Operation::Evaluate, Some(11)),
     (Operation::OutputTokens, Some(11)),
     (Operation::Decode, Some(11)),
-    (Operation::CheckOpening, Some(8)),
 ];
 
 /// Three inputs, and wires 4 to 8: AND, XNOR, OR, NOT of wire 4, a < b.

@@ -4,7 +4,7 @@
 
 mod due;
 
-use std::collections::{BTreeMap, BTreeSet};
+use std::collections::BTreeSet;
 
 use second::block::BLOCK;
 use second::call::{Call, Operation};
@@ -41,23 +41,19 @@ fn refused(call: &Call) -> Option<u8> {
     } else {
         assert!(outcome.buffers == call.buffers(), "{operation:?}: written");
     }
-    assert_eq!(outcome.free, 0, "{operation:?}");
     Some(number)
 }
 
 /// A sound call: the bytes named do not depend on what the buffers held before, so all of them were
-/// written, or they are free, as all those of an opening; past them the buffers are as they were.
+/// written; past them the buffers are as they were.
 fn check_written(call: &Call) {
     let operation = call.operation;
     let other = Call {
         fill: !call.fill,
         ..call.clone()
     };
-    let (outcome, named) = (call.run(), due::room(call));
-    let (buffers, others) = (outcome.buffers, other.run().buffers);
+    let (buffers, others, named) = (call.run().buffers, other.run().buffers, due::room(call));
     assert_eq!(buffers.len(), named.len(), "{operation:?}");
-    let is_free = operation == Operation::CheckOpening;
-    assert_eq!(outcome.free, if is_free { named[0] } else { 0 });
     for ((buffer, other), named) in buffers.iter().zip(&others).zip(named) {
         let written = buffer[..named] == other[..named];
         assert!(written, "{operation:?}: not all written");
@@ -84,26 +80,6 @@ fn sound_calls_write_the_bytes_named_and_no_more() {
                 Operation::Pick => check_picked(&call),
                 _ => check_written(&call),
             }
-        }
-    }
-}
-
-/// Of sound openings many are a yes and many a no, by each scheme.
-#[test]
-fn openings_are_answered_both_ways() {
-    let mut random = Random::new(25);
-    let mut met = BTreeMap::new();
-    for _ in 0..1000 {
-        let call = any_call(&mut random, Operation::CheckOpening);
-        let answer = call.run().answer;
-        assert_eq!(answer, due::answer(&call));
-        let yes = answer.expect("a sound call") == [1];
-        *met.entry((call.scheme, yes)).or_insert(0) += 1;
-    }
-    for scheme in 1..=4 {
-        for yes in [false, true] {
-            let times = met.get(&(scheme, yes)).copied().unwrap_or(0);
-            assert!(times > 50, "scheme {scheme}, {yes}: {times} times");
         }
     }
 }

@@ -42,7 +42,7 @@ const FIXED_SCHEDULES: [&str; 3] = [" by expand_key", " by gates", " by fixed_sc
 const WRONG: &str = "wrong-";
 
 /// The files of wrong cases, and which fields of their lines are compared, counted from 0.
-const COMPARED: [(&str, &[usize]); 20] = [
+const COMPARED: [(&str, &[usize]); 19] = [
     ("wrong-fips197-encryption", &[2]),
     ("wrong-fips197-key-expansion", &[1]),
     ("wrong-fips197-words", &[2]),
@@ -56,7 +56,6 @@ const COMPARED: [(&str, &[usize]); 20] = [
     ("wrong-evaluate", &[4, 5]),
     ("wrong-output-tokens", &[3, 4]),
     ("wrong-decode", &[4, 5]),
-    ("wrong-opening", &[4, 5]),
     ("wrong-chain", &[4, 5, 6]),
     ("wrong-fill", &[0, 3]),
     ("wrong-clash", &[2]),

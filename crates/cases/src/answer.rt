@@ -6,7 +6,7 @@ ghost use Rattle.std.specs.Prelude.{◌+◌, ◌<◌, ◌≤◌, length};
 use buffer::read16;
 use check::same;
 use circuit::refusal::number_and_place;
-use model::{Evaluated, Garbled, Opened, Ran, Refusal, Sizes};
+use model::{Evaluated, Garbled, Ran, Refusal, Sizes};
 
 // The number of the 2 bytes at an index.
 pub fn short_at(s: &[u8], at: usize) -> usize
@@ -56,12 +56,12 @@ pub fn done(answer: &[u8]) -> bool {
     same(&[0u8], answer)
 }
 
-// Whether an answer is 00 and a number: encryptions, or whether a material is the one due.
-fn done_number(number: usize, answer: &[u8]) -> bool {
+// Whether an answer is 00 and a number: encryptions.
+fn done_calls(calls: usize, answer: &[u8]) -> bool {
     if answer.len() != 5 {
         return false;
     }
-    (answer[0] == 0) & (word_at(answer, 1) == number)
+    (answer[0] == 0) & (word_at(answer, 1) == calls)
 }
 
 // Whether an answer is 00 and two numbers: a material's length, and encryptions.
@@ -104,16 +104,7 @@ pub fn garbled(g: Garbled, answer: &[u8]) -> bool {
 pub fn evaluated(e: Evaluated, answer: &[u8]) -> bool {
     match e {
         Evaluated::Refused(f) => refused(f, answer),
-        Evaluated::Done(calls) => done_number(calls, answer),
-    }
-}
-
-// Whether an answer is that of the check of an opening: 1 for yes, 0 for no.
-pub fn opened(o: Opened, answer: &[u8]) -> bool {
-    match o {
-        Opened::Refused(f) => refused(f, answer),
-        Opened::Yes => done_number(1, answer),
-        Opened::No => done_number(0, answer),
+        Evaluated::Done(calls) => done_calls(calls, answer),
     }
 }
 

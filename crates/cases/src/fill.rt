@@ -21,16 +21,3 @@ pub fn left(answer: &[u8], before: u8, after: &[u8], out: &[u8]) -> bool {
     }
     filled(out, before)
 }
-
-// The same where a call that is not refused may leave anything at the front of a buffer: as many bytes at its end as the case has must be the
-// case's.
-pub fn left_past(answer: &[u8], before: u8, after: &[u8], out: &[u8]) -> bool {
-    if !accepted(answer) {
-        return filled(out, before);
-    }
-    if out.len() < after.len() {
-        return false;
-    }
-    let at = out.len() - after.len();
-    same(&out[at..], after)
-}

@@ -129,7 +129,7 @@ module _ (c seed : List ℕ) (want : Wanted) (s : Sizes) (m z o : List ℕ) (sta
         let made = rw (hashed_is γ, at) at (stored_is γ i h) in
         ap (λ (bs : List ℕ). refuse (E.clash bs) 30 (i + 1)) (part_front (material γ) m (first + E.size * i) E.size (omega (arith, ends, within)) ∙ made)
 
-  pub found_is : found_verdict (over (material γ) m) want s ≡ clash_verdict γ
+  found_is : found_verdict (over (material γ) m) want s ≡ clash_verdict γ
   unfolding found_verdict clash_verdict first
   found_is =
       let n : length (circuit_of c).outputs ≡ s.m = outputs_many c ∙ sym (Sized.is_m c s start.sized) in

@@ -1,6 +1,6 @@
 -- The last record: the loops that write its colours and its hashes, and the record whole. Assumes nothing.
 use Prim.Native.Nat.{ℕ, suc, ◌+◌, ◌*◌, ◌-◌, ◌≤◌, ◌<◌}
-use native.Mathlib.Nat.{mul-le-mul, mul-zero, mul-suc}
+use native.Mathlib.Nat.{mul-le-mul}
 use native.Mathlib.Numerals.{add-one}
 use native.Mathlib.Omega.{arith}
 use mathlib.Core.Path.{◌≡◌, refl, sym, ap, ◌∙◌}
@@ -17,14 +17,14 @@ use Rattle.model.specs.Circuit.{circuit_of, outputs}
 use Rattle.model.specs.Aes.{Block, ◌⊕◌}
 use Rattle.model.specs.Tokens.{wants_hashes, colour}
 use Rattle.model.specs.Hashes.{hash}
-use Rattle.model.specs.Ending.{Ending, output_tweak, colours, hashes, ending_of}
+use Rattle.model.specs.Ending.{output_tweak, colours, hashes, ending_of}
 use Rattle.model.specs.Material.{last_bytes}
 use Rattle.model.specs.Evaluation.{token_at}
 use Rattle.model.proofs.Lists.{tabulate_snoc, tabulate_length, map_elements}
 use Rattle.model.proofs.Buffers.{put_none, put_put, put_length}
 use Rattle.model.proofs.Accepted.{OutputHolds, accepted_output}
 use Rattle.model.proofs.Outputs.{outputs_many}
-use Rattle.model.proofs.Endings.{hash_wide, right}
+use Rattle.model.proofs.Endings.{hash_wide}
 use Rattle.model.proofs.OldEnding.{colours_bytes}
 use Rattle.circuit.specs.Outputs.{OutputStart}
 use Rattle.circuit.proofs.AcceptedLaws as Sized
@@ -97,8 +97,8 @@ abbrev pair_of : Block → Block → ℕ → List ℕ
 pair_of x R k = hashes.stored k x (x ⊕ R)
 
 pair_long : (x R : Block) (k : ℕ) → length (pair_of x R k) ≡ 32
-unfolding ending_of hashes
-pair_long x R k = (right true).long k x (x ⊕ R)
+unfolding hashes
+pair_long x R k = length-append (hash x (output_tweak k)) _ ∙ omega (arith, hash_wide x (output_tweak k), hash_wide (x ⊕ R) (output_tweak k))
 
 -- a pair, as it is written
 pub pair_done : (x y R u v : Block) (k at : ℕ) (o d1 d2 : List ℕ) → at + 32 ≤ length o → y ≡ x ⊕ R → u ≡ hash x (output_tweak k) → v ≡ hash y (output_tweak k)
@@ -115,27 +115,19 @@ pair_room u at o d room x k is_u e =
     let wide_u : length u ≡ 16 = ap length is_u ∙ hash_wide x (output_tweak k) in
     rw (e, put_length o at u (omega (arith, wide_u, room))) (omega (arith, room))
 
--- what any ending stores of some outputs: how long it is, where each has its size, and one output more
-module _ (E : Ending) (z : List ℕ) (R : Block) where
-  pub stored_long : ((k : ℕ) (X Y : Block) → length (E.stored k X Y) ≡ E.size) → (k : ℕ) (ws : List ℕ) → length (stored_from E z R k ws) ≡ E.size * length ws
+module _ (z : List ℕ) (R : Block) where
+  pub hashes_long : (k : ℕ) (ws : List ℕ) → length (stored_from hashes z R k ws) ≡ 32 * length ws
   unfolding stored_from
-  stored_long wide k [] = sym (mul-zero E.size)
-  stored_long wide k (w ∷ ws) =
-      length-append (E.stored k (token_at z w) (token_at z w ⊕ R)) _
-      ∙ omega (arith, wide k (token_at z w) (token_at z w ⊕ R), stored_long wide (suc k) ws, mul-suc E.size (length ws))
+  hashes_long k [] = omega arith
+  hashes_long k (w ∷ ws) = length-append (pair_of (token_at z w) R k) _ ∙ omega (arith, pair_long (token_at z w) R k, hashes_long (suc k) ws)
 
-  pub stored_snoc : (k : ℕ) (ws : List ℕ) (w : ℕ)
-      → stored_from E z R k (ws ++ (w ∷ [])) ≡ stored_from E z R k ws ++ E.stored (k + length ws) (token_at z w) (token_at z w ⊕ R)
+  hashes_snoc : (k : ℕ) (ws : List ℕ) (w : ℕ) → stored_from hashes z R k (ws ++ (w ∷ [])) ≡ stored_from hashes z R k ws ++ pair_of (token_at z w) R (k + length ws)
   unfolding stored_from
-  stored_snoc k [] w = append-nil (E.stored k (token_at z w) (token_at z w ⊕ R)) ∙ ap (λ (j : ℕ). E.stored j (token_at z w) (token_at z w ⊕ R)) (omega arith)
-  stored_snoc k (v ∷ ws) w =
+  hashes_snoc k [] w = append-nil (pair_of (token_at z w) R k) ∙ ap (λ (j : ℕ). pair_of (token_at z w) R j) (omega arith)
+  hashes_snoc k (v ∷ ws) w =
       let e : suc k + length ws ≡ k + suc (length ws) = omega arith in
-      ap (λ (l : List ℕ). E.stored k (token_at z v) (token_at z v ⊕ R) ++ l) (stored_snoc (suc k) ws w ∙ ap (λ (j : ℕ). stored_from E z R (suc k) ws ++ E.stored j (token_at z w) (token_at z w ⊕ R)) e)
-      ∙ sym (append_assoc (E.stored k (token_at z v) (token_at z v ⊕ R)) (stored_from E z R (suc k) ws) _)
-
-hashes_long : (z : List ℕ) (R : Block) (k : ℕ) (ws : List ℕ) → length (stored_from hashes z R k ws) ≡ 32 * length ws
-unfolding ending_of hashes
-hashes_long z R k ws = stored_long hashes z R (right true).long k ws
+      ap (λ (l : List ℕ). pair_of (token_at z v) R k ++ l) (hashes_snoc (suc k) ws w ∙ ap (λ (j : ℕ). stored_from hashes z R (suc k) ws ++ pair_of (token_at z w) R j) e)
+      ∙ sym (append_assoc (pair_of (token_at z v) R k) (stored_from hashes z R (suc k) ws) _)
 
 -- those of i outputs are written at `at`: d was o
 pub record Hashing (c : List ℕ) (z : List ℕ) (R : Block) (at : ℕ) (o : List ℕ) (i : ℕ) (d : List ℕ) : Type 0 where
@@ -198,7 +190,7 @@ module _ (c : List ℕ) (s : Sizes) (z o : List ℕ) (at : ℕ) (start : HashesS
           let token : token_at z (get_or (circuit_of c).outputs i 0) ≡ x = sym (is_x ∙ rw is_w) in
           let more : stored_from hashes z R 1 (take (i + 1) (circuit_of c).outputs) ≡ so ++ pair =
           ap (stored_from hashes z R 1) (ap (λ (k : ℕ). take k (circuit_of c).outputs) (add-one i) ∙ take-suc (circuit_of c).outputs i 0 (omega (arith, outputs_many c, of_m)))
-          ∙ stored_snoc hashes z R 1 (take i (circuit_of c).outputs) (get_or (circuit_of c).outputs i 0)
+          ∙ hashes_snoc z R 1 (take i (circuit_of c).outputs) (get_or (circuit_of c).outputs i 0)
           ∙ ap (λ (k : ℕ). so ++ pair_of (token_at z (get_or (circuit_of c).outputs i 0)) R k) number
           ∙ ap (λ (t : Block). so ++ pair_of t R (i + 1)) token in
           record {

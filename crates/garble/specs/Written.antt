@@ -15,10 +15,6 @@ pub record InputsRoom (n : ℕ) (z o : List ℕ) : Type 0 where
 unfoldable pub input_zero : Plan → ℕ → Block
 input_zero p i = aes p.seed.bytes (run_block p.wanted.run (i + 1))
 
--- the one token of input i, by the zero tokens in z
-unfoldable pub one_of : List ℕ → Block → ℕ → Block
-one_of z R i = take 16 (drop (16 * i) z) ⊕ R
-
 -- the zero and the one tokens of all inputs: z, o at entry and z', o' at exit
 pub record InputsIs (p : Plan) (z o z' o' : List ℕ) : Type 0 where
   pub zeros_left : z' ≡ over (join_blocks (tabulate p.n (input_zero p))) z

@@ -56,7 +56,7 @@ pub fn search_clash(material: &[u8], at: usize, m: usize) -> Ran
 }
 
 // The same of a material as it was written, by the mark wanted.
-pub fn find_clash(material: &[u8], wanted: Wanted, z: Sizes) -> Ran
+fn find_clash(material: &[u8], wanted: Wanted, z: Sizes) -> Ran
     requires bounded { Bounded z }
     requires wanted_in_bounds { length_for z wanted ≤ length material.now }
     ensures { ran_of result ≡ found_verdict material.now wanted z }

@@ -56,7 +56,7 @@ fn write_colours(circuit: &[u8], z: Sizes, zeros: &[u8], material: &mut [u8], at
 }
 
 // The two hashes of an output, by its number from 1 and its zero token x.
-pub fn write_pair(kp: &[u64; 88], r: Block, x: Block, number: usize, material: &mut [u8], at: usize)
+fn write_pair(kp: &[u64; 88], r: Block, x: Block, number: usize, material: &mut [u8], at: usize)
     requires fixed_planes { FixedPlanes kp.now }
     requires number_bound { number ≤ 65536 }
     requires at_in_bounds { at + 32 ≤ length material.old }

@@ -1,14 +1,12 @@
 // What comes from the seed: its blocks, and the tokens of the inputs (01, Tokens; 02, job 4). AES makes four blocks at once, so four are held,
 // and the next is made when one is asked that is not among them.
-ghost use Rattle.std.specs.Prelude.{◌≡◌, List, ℕ, ◌*◌, ◌≤◌, length};
-ghost use Rattle.model.specs.Bytes.{tabulate, over};
+ghost use Rattle.std.specs.Prelude.{◌≡◌, List, ℕ};
 ghost use Rattle.model.specs.Tokens.{run_block};
-ghost use Rattle.model.specs.Material.{join_blocks};
 ghost use Rattle.garble.specs.Held.{SeedPlanes, HeldIs, TakenIs};
-ghost use Rattle.garble.specs.Written.{InputsRoom, input_zero, one_of, InputsIs};
+ghost use Rattle.garble.specs.Written.{InputsRoom, InputsIs};
 
 use crate::plan::Plan;
-use block::{Block, Halves, load, store};
+use block::{Block, Halves, store};
 use planes::{Four, encrypt_four};
 
 // Four of the seed's blocks, and the wires that they are of.
@@ -80,11 +78,11 @@ pub fn take_block(
     Taken { held, block }
 }
 
-// The zero tokens of a plan's inputs, from wire 1 on.
-pub fn input_zeros(ks: &[u64; 88], plan: Plan, zeros: &mut [u8])
+// The zero and the one tokens of a plan's inputs, from wire 1 on.
+pub fn garble_inputs(ks: &[u64; 88], plan: Plan, zeros: &mut [u8], ones: &mut [u8])
     requires seed_planes { SeedPlanes plan.seed.bytes ks.now }
-    requires n_in_bounds { 16 * plan.n ≤ length zeros.old }
-    ensures { zeros.new ≡ over (join_blocks (tabulate plan.n (input_zero plan))) zeros.old }
+    requires inputs_room { InputsRoom plan.n zeros.old ones.old }
+    ensures { InputsIs plan zeros.old ones.old zeros.new ones.new }
 {
     let run = plan.wanted.run;
     let mut held = hold(ks, run, 0, 1, 2, 3);
@@ -95,30 +93,7 @@ pub fn input_zeros(ks: &[u64; 88], plan: Plan, zeros: &mut [u8])
         let taken = take_block(ks, run, held, next, next + 1, next + 2, next + 3);
         held = taken.held;
         store(zeros, at, taken.block);
+        store(ones, at, taken.block.xor(plan.r));
         i = next;
     }
-}
-
-// The one tokens of n inputs, from their zero tokens: each ⊕ R.
-fn input_ones(n: usize, r: Block, zeros: &[u8], ones: &mut [u8])
-    requires { InputsRoom n zeros.now ones.old }
-    ensures { ones.new ≡ over (join_blocks (tabulate n (one_of zeros.now r.bytes))) ones.old }
-{
-    let mut i: usize = 0;
-    while i < n {
-        let at = 16 * i;
-        let x = load(zeros, at);
-        store(ones, at, x.xor(r));
-        i += 1;
-    }
-}
-
-// The zero and the one tokens of a plan's inputs.
-pub fn garble_inputs(ks: &[u64; 88], plan: Plan, zeros: &mut [u8], ones: &mut [u8])
-    requires seed_planes { SeedPlanes plan.seed.bytes ks.now }
-    requires inputs_room { InputsRoom plan.n zeros.old ones.old }
-    ensures { InputsIs plan zeros.old ones.old zeros.new ones.new }
-{
-    input_zeros(ks, plan, zeros);
-    input_ones(plan.n, plan.r, zeros, ones);
 }

@@ -1,13 +1,12 @@
 // Whether a large garbling agrees. The case is 86 bytes: the circuit's rule (n, m, q and the period of 2 bytes each, the
 // generator's start of 4), the seed, the scheme, the answer (00, the length and the calls), and the fingerprints of the
-// material, the zero tokens and the one tokens. No such case is refused, and all are of run 0 and of mark 47 48. What
-// garble wrote is then opened (02, job 10), as it is and with a bit flipped.
-ghost use Rattle.std.specs.Prelude.{◌<◌, length};
+// material, the zero tokens and the one tokens. No such case is refused, and all are of run 0 and of mark 47 48.
+ghost use Rattle.std.specs.Prelude.{◌<◌};
 
 use crate::fingerprint::fingerprint;
 use crate::rule::{Rule, put_circuit};
 use block::load;
-use cases::answer::{garbled, opened, short_at, word_at};
+use cases::answer::{garbled, short_at, word_at};
 use cases::fill::filled;
 use cases::room;
 use check::same;
@@ -58,68 +57,7 @@ fn all_wrote(case: &[u8; 86], material: &[u8], zeros: &[u8], ones: &[u8]) -> boo
     material_wrote & zeros_wrote & ones_wrote
 }
 
-// Whether the check of an opening says of a material what is due: 1 for yes, 0 for no.
-fn opens(case: &[u8; 86], circuit: &[u8], material: &[u8], scratch: &mut [u8], due: u8) -> bool {
-    let seed = load(case, 12).bytes;
-    let o = opening::check_opening(circuit, &seed, 0, case[28], material, scratch);
-    opened(o, &[0u8, 0, 0, 0, due])
-}
-
-// Whether it says no with a bit of a byte flipped, which is then as it was.
-fn flipped(
-    case: &[u8; 86],
-    circuit: &[u8],
-    material: &mut [u8],
-    at: usize,
-    scratch: &mut [u8],
-) -> bool
-    requires { at < length material.old }
-{
-    let byte = material[at];
-    material[at] = byte ^ 1;
-    let no = opens(case, circuit, material, scratch, 0);
-    material[at] = byte;
-    no
-}
-
-// Whether it says yes to what garble wrote, and no with a bit flipped: of the byte in the middle of the row records, of the
-// last byte of these, and of the last colour. Without charged gates the first two are next to where they would be.
-fn all_opens(case: &[u8; 86], circuit: &[u8], material: &mut [u8], scratch: &mut [u8]) -> bool {
-    let m = short_at(case, 2);
-    let len = material.len();
-    if len < m + 11 {
-        return false;
-    }
-    let last = len - m - 2;
-    let own = opens(case, circuit, material, scratch, 1);
-    let middle = flipped(case, circuit, material, 9 + (last - 9) / 2, scratch);
-    let row = flipped(case, circuit, material, last - 1, scratch);
-    let colour = flipped(case, circuit, material, len - 1, scratch);
-    own & middle & row & colour
-}
-
-// Whether a scratch is as it was past the bytes of all wires.
-fn kept(case: &[u8; 86], scratch: &[u8]) -> bool {
-    let r = rule_of(case);
-    let named = 16 * (r.n + r.q);
-    if scratch.len() < named {
-        return false;
-    }
-    filled(&scratch[named..], BEFORE)
-}
-
-// The openings of the material that garble wrote to the front of a buffer.
-fn opens_made(case: &[u8; 86], circuit: &[u8], material: &mut [u8], scratch: &mut [u8]) -> bool {
-    let len = word_at(case, 30);
-    if material.len() < len {
-        return false;
-    }
-    let answered = all_opens(case, circuit, &mut material[..len], scratch);
-    answered & kept(case, scratch)
-}
-
-// Garble on the circuit that a case's rule made. The one tokens of 4,096 inputs fill the last buffer. The openings take the
-// buffer of the zero tokens for their scratch.
+// Garble on the circuit that a case's rule made. The one tokens of 4,096 inputs fill the last buffer.
 fn garble_made(case: &[u8; 86], circuit: &[u8]) -> bool {
     let mut material = room::most(BEFORE);
     let mut zeros = room::most(BEFORE);
@@ -137,8 +75,7 @@ fn garble_made(case: &[u8; 86], circuit: &[u8]) -> bool {
         &mut zeros,
         &mut ones,
     );
-    let made = answered(g, case) & all_wrote(case, &material, &zeros, &ones);
-    made & opens_made(case, circuit, &mut material, &mut zeros)
+    answered(g, case) & all_wrote(case, &material, &zeros, &ones)
 }
 
 // The case whose circuit is to be made in a buffer.

@@ -35,7 +35,6 @@ pub mod Accepted
 pub mod Holds
 pub mod Endings
 pub mod Lengths
-pub mod Opening
 pub mod Stored
 pub mod Filling
 pub mod OneMore

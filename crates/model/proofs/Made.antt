@@ -38,6 +38,7 @@ gate_each {w} (gate g rest) (suc k) h =
 in_use : (k : Kind) → Used k → is_refused k ≡ false
 in_use (C.charged u v x) h = refl
 in_use (C.free p q c) h = refl
+in_use C.refused h = elim h [ ]
 
 -- 6 and 7 do not refuse it
 gate_fine : (own : ℕ) (g : Gate) → GateHolds own g → gate_verdict own g ≡ fine

@@ -17,7 +17,6 @@ pub mod Evaluation
 pub mod Calls
 pub mod Refusals
 pub mod Operations
-pub mod Opening
 pub mod Program
 pub mod Demand3
 pub mod Examples

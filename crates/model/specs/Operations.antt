@@ -32,12 +32,6 @@ abbrev pub written : Verdict → List ℕ → List ℕ → List ℕ
 written fine new old = over new old
 written (refused i x) new old = old
 
--- a buffer of which the first bytes are free at exit (02, job 10): they may hold anything, no other is touched, and a refusal leaves all as they were
-pub record Freed (v : Verdict) (bytes : ℕ) (old new : List ℕ) : Type 0 where
-  pub same_length : length new ≡ length old
-  pub past : drop bytes new ≡ drop bytes old
-  pub kept : (i x : ℕ) → v ≡ refused i x → new ≡ old
-
 -- ---- "Check: n, m, q, p."
 
 unfoldable pub sizes_of : List ℕ → Sizes

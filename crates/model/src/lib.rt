@@ -121,11 +121,3 @@ pub enum Wrote {
     Done(usize),
     Refused(Refusal),
 }
-
-// The answer of the check of an opened garbling: whether the material is the one that garbling defines (02, job 10), or the refusal.
-#[derive(Drop)]
-pub enum Opened {
-    Yes,
-    No,
-    Refused(Refusal),
-}

@@ -5,7 +5,6 @@ use crate::ciphers::{
     in_planes_first, in_planes_second,
 };
 use crate::clashes::{clash_run, zero_run};
-use crate::openings::opening_run;
 use crate::schedules::{expansion, expansion_by_gates, expansion_word, fixed_expansion};
 use crate::single::single_run;
 use buffer::read16;
@@ -112,7 +111,7 @@ fn fill_run(answer: &[u8], before: &[u8], after: &[u8], out: &[u8]) -> bool {
 // word, 18 the schedule of π's key, 19 and 20 encryption in planes under the first and the second of two keys, 21 and 22 as the first and the second
 // block of a pair whose keys are expanded beside them, 23 σ, 24 the outputs' tokens,
 // 25 key expansion by the S-box's circuit, 26 a buffer after a call, 27 the search for equal hashes, 28 zeros in a
-// buffer, 29 the check of an opening.
+// buffer.
 pub fn agrees<'a>(
     group: u8,
     a: &'a [u8],
@@ -147,7 +146,6 @@ pub fn agrees<'a>(
         26 => fill_run(a, b, c, d),
         27 => clash_run(a, b, c),
         28 => zero_run(a, b, c),
-        29 => opening_run(a, b, c, d, e, f),
         _ => single_run(group, a, b, c, d, d, e, f),
     }
 }

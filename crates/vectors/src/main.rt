@@ -10,7 +10,6 @@ mod agree;
 mod chained;
 mod ciphers;
 mod clashes;
-mod openings;
 mod schedules;
 mod single;
 mod text;
@@ -129,11 +128,6 @@ fn run_hashed() {
     run_file(28, b"zeroed");
 }
 
-// Cases of the second implementation of openings (02, job 10).
-fn run_opened() {
-    run_file(29, b"opening");
-}
-
 // Cases of the second implementation whose buffers are the same whether a call is refused or not, so that the answer
 // alone tells; and buffers after calls.
 fn run_filled() {
@@ -158,7 +152,6 @@ fn run_wrong() {
     run_file(10, b"wrong-evaluate");
     run_file(24, b"wrong-output-tokens");
     run_file(11, b"wrong-decode");
-    run_file(29, b"wrong-opening");
     run_file(12, b"wrong-chain");
     run_file(26, b"wrong-fill");
     run_file(27, b"wrong-clash");
@@ -175,7 +168,6 @@ fn main() {
     run_named();
     run_compared();
     run_hashed();
-    run_opened();
     run_filled();
     run_wrong();
 }

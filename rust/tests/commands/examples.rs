@@ -5,7 +5,7 @@ use crate::program::folder::Folder;
 use crate::program::process::{run, shell, Ended};
 
 /// The commands in the order of their examples: each needs files of those before it.
-const ORDER: [&str; 11] = [
+const ORDER: [&str; 10] = [
     "comparator",
     "seed",
     "garble",
@@ -13,7 +13,6 @@ const ORDER: [&str; 11] = [
     "pick",
     "evaluate",
     "decode",
-    "open",
     "plain",
     "sizes",
     "compare",

@@ -3,7 +3,7 @@
 use super::places::run_in;
 use crate::program::folder::Folder;
 
-pub const COMMANDS: [&str; 11] = [
+pub const COMMANDS: [&str; 10] = [
     "compare",
     "sizes",
     "comparator",
@@ -13,7 +13,6 @@ pub const COMMANDS: [&str; 11] = [
     "pick",
     "evaluate",
     "decode",
-    "open",
     "plain",
 ];
 
@@ -89,17 +88,6 @@ fn the_whole_lists_each_command() {
         .filter_map(|line| line.strip_prefix("  ")?.split(' ').next());
     let listed: Vec<&str> = listed.filter(|word| *word != "$" && *word != "yes").collect();
     assert_eq!(listed, COMMANDS);
-}
-
-/// The statuses that there are: the help of the whole says each, and that of `open` says its own.
-#[test]
-fn each_status_is_said() {
-    let whole = help(&[]);
-    let (_, said) = whole.split_once("\nStatus: ").expect("the statuses");
-    for status in ["0 done", "1 refused", "2 wrong usage", "3 open says no"] {
-        assert!(said.contains(status), "no {status}: {said}");
-    }
-    assert!(help(&["open"]).contains("\nStatus: 0 for yes, 3 for no; 1 where "));
 }
 
 #[test]

@@ -113,7 +113,6 @@ fn a_file_without_end() {
             "evaluate circuit --material material --tokens tokens --tokens /dev/zero --out o",
             "\"/dev/zero\"",
         ),
-        ("open circuit --seed seed --material /dev/zero", "\"/dev/zero\""),
         (
             "encode circuit --zeros zeros --ones ones --values /dev/zero --out o",
             "\"/dev/zero\"",

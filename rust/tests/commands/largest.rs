@@ -63,27 +63,4 @@ fn garbled(folder: &Folder, circuit: &[u8], scheme: u8, digits: &[u8]) {
     assert!(folder.read("w") == wires);
     assert!(folder.read("out") == due::output_tokens(circuit, &wires).expect("gathered"));
     run_in(folder, &["decode", "circuit", "--material", "m", "--outputs", "out"]).is_done(digits);
-    opened(folder, &word);
-}
-
-/// The material opened: as it is, and with a bit of a record in the middle flipped, and of the last byte.
-fn opened(folder: &Folder, scheme: &str) {
-    let open = [
-        "open",
-        "circuit",
-        "--seed",
-        "seed",
-        "--material",
-        "m",
-        "--scheme",
-        scheme,
-    ];
-    run_in(folder, &open).is_done(b"yes\n");
-    let material = folder.read("m");
-    for byte in [material.len() / 2, material.len() - 1] {
-        let mut other = material.clone();
-        other[byte] ^= 1;
-        folder.write("m", other);
-        run_in(folder, &open).is_no();
-    }
 }

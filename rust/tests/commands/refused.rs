@@ -75,10 +75,7 @@ fn circuits_by_each_command_that_reads_one() {
     }
     let mut commands: Vec<&str> = readers.iter().map(|call| call.command).collect();
     commands.dedup();
-    assert_eq!(
-        commands,
-        ["sizes", "garble", "encode", "evaluate", "decode", "open", "plain"]
-    );
+    assert_eq!(commands, ["sizes", "garble", "encode", "evaluate", "decode", "plain"]);
 }
 
 #[test]
@@ -156,39 +153,6 @@ fn seeds_and_schemes() {
             is_refused(&folder, &hashed, due, (8, length));
             let compare = ["compare", "1", "2", "--bits", "8", "--seed", "seed", "--scheme", &word];
             is_refused(&folder, &compare, due, (8, length));
-        }
-    }
-}
-
-/// A seed or a scheme that is refused is so whatever the material is, which itself is never refused.
-#[test]
-fn seeds_and_schemes_of_an_opening() {
-    let world = world();
-    let folder = filled(&world);
-    for material in [world.file("material"), b""] {
-        folder.write("material", material);
-        for (length, scheme, at) in [
-            (16, 0, (14, 0)),
-            (16, 5, (14, 5)),
-            (16, 255, (14, 255)),
-            (0, 3, (8, 0)),
-            (15, 5, (8, 15)),
-            (17, 3, (8, 17)),
-        ] {
-            let (seed, word) = (vec![7; length], scheme.to_string());
-            folder.write("seed", &seed);
-            let due = due::opens(world.file("circuit"), &seed, 0, scheme, material).unwrap_err();
-            let open = [
-                "open",
-                "circuit",
-                "--seed",
-                "seed",
-                "--material",
-                "material",
-                "--scheme",
-                &word,
-            ];
-            is_refused(&folder, &open, due, at);
         }
     }
 }

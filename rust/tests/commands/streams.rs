@@ -99,27 +99,6 @@ fn standard_error_that_takes_nothing() {
     }
 }
 
-/// The answer no has a status of its own, and no message that could be lost.
-#[test]
-fn a_no_without_standard_error() {
-    let folder = filled(&world());
-    for line in [
-        "weighhare open circuit --seed seed --run 1 --material material 2>/dev/full",
-        "weighhare open circuit --seed seed --run 1 --material material 2>&-",
-    ] {
-        run(&mut shell(folder.root(), line), b"").is_no();
-    }
-}
-
-/// A no that cannot be printed is trouble, as anything is.
-#[test]
-fn a_no_to_a_full_device() {
-    let folder = filled(&world());
-    let words = "open circuit --seed seed --run 1 --material material".split(' ');
-    let full = File::options().write(true).open("/dev/full").expect("the full device");
-    run_to(&mut program(&folder, words), b"", full).is_trouble(&["standard output", "No space left"]);
-}
-
 /// Standard input that is closed has no bytes.
 #[test]
 fn standard_input_that_is_closed() {

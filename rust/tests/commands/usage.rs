@@ -7,7 +7,7 @@ use crate::program::folder::Folder;
 use std::collections::BTreeSet;
 
 /// What may be left out of a call that is right, so that another is right.
-const OPTIONAL: [(&str, &str); 10] = [
+const OPTIONAL: [(&str, &str); 8] = [
     ("garble", "--run"),
     ("garble", "--scheme"),
     ("garble", "--hashed"),
@@ -15,8 +15,6 @@ const OPTIONAL: [(&str, &str); 10] = [
     ("evaluate", "--wires"),
     ("decode", "--yes-no"),
     ("decode", "--out"),
-    ("open", "--run"),
-    ("open", "--scheme"),
     ("plain", "--wires"),
 ];
 
@@ -237,7 +235,7 @@ fn a_number_that_is_none() {
             }
         }
     }
-    assert_eq!(tried, 14);
+    assert_eq!(tried, 12);
 }
 
 /// Zeros in front of a number are no fault.

@@ -17,7 +17,6 @@ pub const NAMED: [u8; 27] = [
 ];
 
 /// With 3 inputs, wire 4 is wire 1 AND wire 2, wire 5 is wire 3 XOR wire 4, wire 6 is wire 4 NOR wire 5.
-#[allow(dead_code)] // Not every file of tests uses it.
 pub const GATES: [Gate; 3] = [
     Gate { a: 1, b: 2, code: 8 },
     Gate { a: 3, b: 4, code: 6 },

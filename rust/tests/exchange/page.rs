@@ -14,18 +14,6 @@ pub struct Step {
     pub output: String,
 }
 
-impl Step {
-    /// Whether it prints the answer of a purchase.
-    pub fn decodes(&self) -> bool {
-        self.command.starts_with("weighhare decode ")
-    }
-
-    /// Whether it says of one garbling or of several, in a loop, whether they are what their seeds give.
-    pub fn opens(&self) -> bool {
-        self.command.contains("weighhare open ")
-    }
-}
-
 /// All commands of the page, in order.
 pub fn steps() -> Vec<Step> {
     let mut steps = Vec::new();

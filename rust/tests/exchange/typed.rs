@@ -43,8 +43,10 @@ pub fn with_figures(steps: &[Step], price: u64, ceiling: u64) -> Vec<Step> {
             .find(|step| step.command.ends_with(&format!("> {file}")));
         step.expect("a figure").command = format!("echo {figure} > {file}");
     }
-    for step in steps.iter_mut().filter(|step| step.decodes()) {
-        step.output = crate::program::due::answer(price <= ceiling).to_owned();
+    for step in &mut steps {
+        if ["yes\n", "no\n"].contains(&step.output.as_str()) {
+            step.output = crate::program::due::answer(price <= ceiling).to_owned();
+        }
     }
     steps
 }

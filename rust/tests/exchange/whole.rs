@@ -1,6 +1,6 @@
 //! The exchange with nothing damaged.
 
-use super::page::{bytes_said, split_at, steps, table, SIDES};
+use super::page::{bytes_said, command, split_at, steps, table, SIDES};
 use super::typed::{figure, place, type_all, with_figures};
 use crate::program::due;
 use crate::program::folder::Folder;
@@ -10,8 +10,7 @@ use std::thread;
 /// The heading after which what is secret is gone.
 const SECRETS_GO: &str = "5. What is secret goes";
 
-/// The garblings that the seller makes for a sample.
-const GARBLINGS: usize = 4;
+const AFTERWARDS: &str = "Afterwards, if both figures may be known";
 
 /// The largest figure of 32 bits.
 const MOST: u64 = u32::MAX as u64;
@@ -23,18 +22,12 @@ fn as_the_page_types_it() {
     type_all(&place(), &steps);
 }
 
-/// The answer where the desk decodes, yes for each garbling that is opened, and else nothing.
 #[test]
-fn the_answers_on_the_page_are_right() {
+fn the_answer_on_the_page_is_right() {
     let steps = steps();
-    let answer = due::answer(figure(&steps, "price") <= figure(&steps, "ceiling"));
-    let (decoded, rest): (Vec<_>, Vec<_>) = steps.iter().partition(|step| step.decodes());
-    assert_eq!(decoded.len(), 2, "the purchase, and that after a sample");
-    assert!(decoded.iter().all(|step| step.output == answer));
-    let (opened, rest): (Vec<_>, Vec<_>) = rest.into_iter().partition(|step| step.opens());
-    let printed: Vec<_> = opened.iter().map(|step| step.output.as_str()).collect();
-    assert_eq!(printed, ["yes\n".to_owned(), "yes\n".repeat(GARBLINGS - 1)]);
-    assert!(rest.iter().all(|step| step.output.is_empty()));
+    let printed: String = steps.iter().map(|step| step.output.as_str()).collect();
+    let due = due::answer(figure(&steps, "price") <= figure(&steps, "ceiling"));
+    assert_eq!(printed, due, "all that the page prints");
 }
 
 #[test]
@@ -141,11 +134,8 @@ fn secret_files_are_for_their_owner_alone() {
         assert_eq!(place.mode(path), place.mode("seller/price"), "{path}");
     }
     type_all(&place, &split_at(SECRETS_GO).1);
-    for file in ["seed", "zeros", "ones"] {
-        let left: Vec<_> = (1..=GARBLINGS).map(|i| format!("seller/{file}-{i}")).collect();
-        let left: Vec<_> = left.into_iter().filter(|path| place.path(path).exists()).collect();
-        assert_eq!(left.len(), 1, "{left:?}");
-        assert_eq!(place.mode(&left[0]), 0o600, "{left:?}");
+    for path in ["desk/again-zeros", "desk/again-ones"] {
+        assert_eq!(place.mode(path), 0o600, "{path}");
     }
 }
 
@@ -204,5 +194,25 @@ fn no_token_is_left() {
             let found = entry.bytes.windows(16).any(|window| window == token);
             assert!(!found, "a token in {path:?}");
         }
+    }
+}
+
+/// `cmp` shows material that is not the seed's, and a circuit that was not agreed on.
+#[test]
+fn cmp_shows_a_change() {
+    let place = answered();
+    let (_, after) = split_at(AFTERWARDS);
+    type_all(&place, &after[..1]);
+    for (begins, index, path) in [
+        ("cmp own-circuit", 0, "desk/circuit"),
+        ("cmp again", 0, "desk/material"),
+    ] {
+        let mut bytes = place.read(path);
+        let step = command(begins, index);
+        type_all(&place, std::slice::from_ref(&step));
+        *bytes.last_mut().expect("a byte") ^= 1;
+        place.write(path, &bytes);
+        let line = crate::program::process::shell(&place.path(step.side), &step.command).output();
+        assert_eq!(line.expect("a shell").status.code(), Some(1), "{}", step.command);
     }
 }

@@ -29,11 +29,6 @@ fn must(holds: bool, otherwise: &str) -> Checked {
     holds.then_some(()).ok_or_else(|| otherwise.to_owned())
 }
 
-/// Whether a garbling was opened and is not right. That a comparison says no is no such thing.
-fn is_no(parsed: &Parsed, done: &Done) -> bool {
-    parsed.command == "open" && done.printed == "no\n"
-}
-
 impl Run<'_> {
     pub fn check(&self, secrets: &Secrets) -> Checked {
         must(self.ended.signal.is_none(), "a signal ended it")?;
@@ -43,8 +38,7 @@ impl Run<'_> {
             Some(0) => self.done(),
             Some(1) => self.refused(),
             Some(2) => self.trouble(),
-            Some(3) => self.answered_no(),
-            _ => Err("the status is none of 0 to 3".to_owned()),
+            _ => Err("the status is none of 0, 1 and 2".to_owned()),
         }?;
         must(
             !self.case.right || self.ended.status == Some(0),
@@ -120,20 +114,8 @@ impl Run<'_> {
             "a message where none is due, or none where one is",
         )?;
         match due(self.case, &parsed) {
-            Some(Ok(done)) if is_no(&parsed, &done) => Err("status 0, but what was opened is not right".to_owned()),
             Some(Ok(done)) => self.did(&parsed, &done),
             _ => Err("done, but the library refuses".to_owned()),
-        }
-    }
-
-    /// Status 3: what was opened is not right, `no` is printed, and nothing else.
-    fn answered_no(&self) -> Checked {
-        must(self.ended.stderr.is_empty(), "a message beside a no")?;
-        must(self.ended.stdout == b"no\n", "status 3, and no is not what is printed")?;
-        let parsed = parse(&self.case.words).ok_or("status 3, but the words are no call")?;
-        match due(self.case, &parsed) {
-            Some(Ok(done)) if is_no(&parsed, &done) => self.is_untouched(),
-            _ => Err("status 3, but what was opened is right, or nothing was".to_owned()),
         }
     }
 

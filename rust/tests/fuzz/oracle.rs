@@ -93,7 +93,6 @@ pub fn due(case: &Case, parsed: &Parsed) -> Option<Result<Done, Refusal>> {
         "pick" => oracle.pick(),
         "evaluate" => oracle.evaluate(),
         "decode" => oracle.decode(),
-        "open" => oracle.open(),
         "plain" => oracle.plain(),
         "compare" => oracle.compare(),
         _ => None,
@@ -230,18 +229,6 @@ impl Oracle<'_> {
             None if self.parsed.option("--yes-no").is_some() => printed(due::answer(bits == [1])),
             None => printed(due::digits(&bits)),
         }))
-    }
-
-    fn open(&self) -> Option<Result<Done, Refusal>> {
-        let (run, scheme) = (self.parsed.number("--run", 0)?, self.parsed.number("--scheme", 3)?);
-        let opens = due::opens(
-            &self.circuit()?,
-            &self.option("--seed")?,
-            run,
-            u8::try_from(scheme).ok()?,
-            &self.option("--material")?,
-        );
-        Some(opens.map(|yes| printed(due::answer(yes))))
     }
 
     fn plain(&self) -> Option<Result<Done, Refusal>> {

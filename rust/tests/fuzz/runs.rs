@@ -14,9 +14,8 @@ const RUNS: u64 = 20_000;
 
 const WORKERS: u64 = 2;
 
-/// How many runs ended with status 0, 1, 2 and 3, and in how many a figure stood where none belongs, so that messages
-/// may have it.
-type Counts = [u64; 5];
+/// How many runs ended with status 0, 1 and 2, and in how many a figure stood where none belongs, so that messages may have it.
+type Counts = [u64; 4];
 
 /// What is said where a check fails: enough to see the run, and to repeat it alone.
 fn failure(seed: u64, number: u64, case: &Case, ended: &Ended, why: &str) -> String {
@@ -48,7 +47,7 @@ fn work(worlds: &[World], secrets: &Secrets, seed: u64, numbers: impl Iterator<I
             panic!("{}", failure(seed, number, &case, &ended, &why));
         }
         counts[ended.status.expect("a status") as usize] += 1;
-        counts[4] += u64::from(case.figures.iter().any(|figure| is_out_of_place(&case, figure)));
+        counts[3] += u64::from(case.figures.iter().any(|figure| is_out_of_place(&case, figure)));
     }
     counts
 }
@@ -75,11 +74,10 @@ fn whatever_it_is_given() {
             std::array::from_fn(|index| sum[index] + more[index])
         })
     });
-    println!("{runs} runs from seed {seed}: {counts:?} with status 0, 1, 2, 3, and with a figure out of place");
+    println!("{runs} runs from seed {seed}: {counts:?} with status 0, 1, 2, and with a figure out of place");
     if runs >= 1000 {
         // What is tried must be of every kind, and the look for figures must be left out seldom.
         assert!(counts[..3].iter().all(|count| *count > runs / 10), "{counts:?}");
-        assert!(counts[3] > runs / 500, "{counts:?}");
-        assert!(counts[4] < runs / 20, "{counts:?}");
+        assert!(counts[3] < runs / 20, "{counts:?}");
     }
 }

@@ -79,25 +79,6 @@ impl MadeUp {
         )
     }
 
-    /// A right no, of the material opened with another run number.
-    fn no() -> Self {
-        let words = [
-            "open",
-            "circuit",
-            "--seed",
-            "seed",
-            "--run",
-            "1",
-            "--scheme",
-            "1",
-            "--material",
-            "material",
-        ];
-        let mut run = Self::of(&words, 3, "");
-        run.ended.stdout = b"no\n".to_vec();
-        run
-    }
-
     /// With a file afterwards.
     fn with(mut self, name: &str, mode: u32, bytes: Vec<u8>) -> Self {
         self.after.insert(name.into(), Entry { mode, bytes });
@@ -125,33 +106,9 @@ impl MadeUp {
 
 #[test]
 fn right_runs_pass() {
-    for run in [MadeUp::encoded(), MadeUp::refused(), MadeUp::trouble(), MadeUp::no()] {
+    for run in [MadeUp::encoded(), MadeUp::refused(), MadeUp::trouble()] {
         assert_eq!(run.check(), Ok(()));
     }
-}
-
-/// A no with another status, a yes in its place, a no of what is right, and a no of what is no opening.
-#[test]
-fn a_wrong_answer_to_an_opening() {
-    let mut run = MadeUp::no();
-    run.ended.status = Some(0);
-    run.is_seen("status 0, but what was opened is not right");
-    run.ended.stdout = b"yes\n".to_vec();
-    run.is_seen("status 0, but what was opened is not right");
-    run.ended.status = Some(3);
-    run.is_seen("no is not what is printed");
-    let mut run = MadeUp::no();
-    run.ended.stderr = b"no\n".to_vec();
-    run.is_seen("a message beside a no");
-    let mut run = MadeUp::no();
-    run.case.words[5] = b"0".to_vec();
-    run.is_seen("what was opened is right");
-    (run.ended.status, run.ended.stdout) = (Some(0), b"yes\n".to_vec());
-    assert_eq!(run.check(), Ok(()));
-    let mut run = MadeUp::encoded();
-    (run.ended.status, run.ended.stdout) = (Some(3), b"no\n".to_vec());
-    run.is_seen("or nothing was");
-    MadeUp::no().with("new", ANY, Vec::new()).is_seen("\"new\" is new");
 }
 
 #[test]

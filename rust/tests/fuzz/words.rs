@@ -100,9 +100,6 @@ pub fn give(case: &mut Case, world: &World, random: &mut Random) {
     all.push(Call::of("seed").with("--out", Value::Text("new.seed".to_owned())));
     // Garbling writes most files, and so has the most that can go wrong.
     all.extend([all[2].clone(), all[3].clone()]);
-    // An opening has two answers, each with its status.
-    let open = all.iter().find(|call| call.command == "open").expect("an opening");
-    all.extend(vec![open.clone(); 3]);
     let mut call = all[random.below(all.len())].clone();
     let read = call.all_read();
     if !read.is_empty() && random.chance(20) {

@@ -165,7 +165,6 @@ pub fn calls(world: &World) -> Vec<Call> {
     calls.extend(picks(world));
     calls.extend(evaluations());
     calls.extend(answers(world));
-    calls.push(opening(world));
     calls.extend(plain(world));
     calls
 }
@@ -253,13 +252,6 @@ fn answers(world: &World) -> [Call; 3] {
         decode.clone().with("--yes-no", Value::Nothing).prints(answer),
         decode.writes("--out", "bits"),
     ]
-}
-
-/// Whether the material is the seed's: it is, with either mark.
-fn opening(world: &World) -> Call {
-    let open = Call::of("open").reads("", "circuit").reads("--seed", "seed");
-    let open = open.text("--run", world.run).text("--scheme", world.scheme);
-    open.reads("--material", "material").prints(due::answer(true))
 }
 
 fn plain(world: &World) -> [Call; 3] {

@@ -112,12 +112,6 @@ pub fn decode(circuit: &[u8], outputs: &[u8], material: &[u8]) -> Result<Vec<u8>
     Ok(bits)
 }
 
-/// Whether material is what a seed that was opened gives.
-pub fn opens(circuit: &[u8], seed: &[u8], run: u64, scheme: u8, material: &[u8]) -> Result<bool, Refusal> {
-    let Sizes { n, q, .. } = weighhare::check(circuit)?;
-    weighhare::check_opening(circuit, seed, run, scheme, material, &mut vec![0; 16 * (n + q)])
-}
-
 /// The values of all wires.
 pub fn plain(circuit: &[u8], values: &[u8]) -> Result<Vec<u8>, Refusal> {
     let Sizes { n, q, .. } = weighhare::check(circuit)?;

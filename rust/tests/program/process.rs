@@ -101,12 +101,6 @@ impl Ended {
         assert!(self.stdout == stdout, "printed {:?}", self.stdout());
     }
 
-    /// The answer is no: that is printed, and no message.
-    pub fn is_no(&self) {
-        let found = (self.status, self.stdout(), self.stderr());
-        assert_eq!(found, (Some(3), "no\n".to_owned(), String::new()), "{self:?}");
-    }
-
     /// A refusal, in these words, and nothing printed.
     pub fn is_refused(&self, said: &str) {
         assert_eq!((self.status, self.stderr().as_str()), (Some(1), said));

@@ -57,8 +57,7 @@ fn write_case(file: &mut impl Write, call: &Call) -> io::Result<()> {
     for number in numbers.into_iter().chain(counts) {
         file.write_all(&number.to_ne_bytes())?;
     }
-    let numbers = [call.run, call.width, expected.free as u64];
-    for word in numbers.into_iter().chain(expected.words) {
+    for word in [call.run, call.width].into_iter().chain(expected.words) {
         file.write_all(&word.to_ne_bytes())?;
     }
     for (_, bytes) in &inputs {

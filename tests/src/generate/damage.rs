@@ -1,7 +1,6 @@
 //! Calls damaged so that a chosen condition holds (01, Turned down, by number; 02, jobs 1, 8 and 12).
 
 use super::hashes::{any_mark, BAD_MARKS};
-use super::openings::any_opening;
 use super::outputs::any_outputs;
 use super::{
     add_run, any_scheme, any_width, call, call_on, room, small_circuit, use_one_operand,
@@ -27,7 +26,7 @@ pub fn damaged_call(random: &mut Random, operation: Operation, numbers: &[u8]) -
 }
 
 /// The same with sound circuits of either mark and of all codes, by any scheme, with material of either mark,
-/// and of garble and of an opening in any run.
+/// and of garble in any run.
 pub fn any_damaged_call(random: &mut Random, operation: Operation, numbers: &[u8]) -> Call {
     let circuit = |random: &mut Random| {
         let bytes = small_circuit(random);
@@ -60,7 +59,6 @@ pub fn damaged_call_with(
         let mut call = call_on(random, operation, &bytes);
         any_scheme(random, &mut call);
         mark(random, &mut call);
-        any_opening(random, &mut call);
         call
     });
     use_one_operand(random, codes(&mut damaged));
@@ -169,10 +167,10 @@ fn scheme_refused_still(call: Call) -> Call {
     }
 }
 
-/// The scheme byte: the argument of garble and of an opening, or the material's.
+/// The scheme byte: garble's argument, or the material's.
 fn scheme_byte(call: &mut Call) -> Option<&mut u8> {
     match call.operation {
-        Operation::Garble | Operation::CheckOpening => Some(&mut call.scheme),
+        Operation::Garble => Some(&mut call.scheme),
         _ => call.material.get_mut(2),
     }
 }

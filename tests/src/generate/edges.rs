@@ -2,7 +2,6 @@
 //! each of its limits, one step at a time. Which refusal is due is not known here.
 
 use super::hashes::{has_mark, hash_outputs, BAD_MARKS};
-use super::openings::open_with;
 use super::outputs::with_outputs;
 use super::{add_run, call_on, circuit, rekey, room, with_one_operand, BAD_WIDTHS};
 use crate::block::BLOCK;
@@ -27,7 +26,7 @@ struct Edges {
 }
 
 /// All edges of an operation, each of garble in a run of its own: by each scheme, and with the outputs named
-/// by one; and by this one with hashes too. Each sound opening has a run of its own, and is a yes.
+/// by one; and by this one with hashes too.
 pub fn edges(random: &mut Random, operation: Operation) -> Vec<Edge> {
     let mut found = Vec::new();
     for (n, q, charged, by_name) in [(2, 1, 100, 4), (3, 2, 0, 2), (5, 9, 60, 1)] {
@@ -63,31 +62,29 @@ fn with_scheme(random: &mut Random, operation: Operation, bytes: &[u8], scheme: 
             rekey(random, &mut call);
         }
         let of_call = match operation {
-            Operation::Garble | Operation::CheckOpening => call.scheme,
+            Operation::Garble => call.scheme,
             Operation::Evaluate | Operation::EvaluateGates | Operation::Decode => call.material[2],
             _ => scheme,
         };
         if of_call == scheme {
-            open_with(random, &mut call, material::Mark::Colours);
             call.lens = room(&call).expect("a sound call");
             return call;
         }
     }
 }
 
-/// The same with material that ends in hashes, where the operation makes or takes material.
+/// The same with material that ends in hashes, where the operation has a mark.
 fn with_hashes(
     random: &mut Random,
     operation: Operation,
     bytes: &[u8],
     scheme: u8,
 ) -> Option<Call> {
-    if !has_mark(operation) && operation != Operation::CheckOpening {
+    if !has_mark(operation) {
         return None;
     }
     let mut call = with_scheme(random, operation, bytes, scheme);
     hash_outputs(random, &mut call);
-    open_with(random, &mut call, material::Mark::Hashes);
     Some(call)
 }
 
@@ -125,12 +122,6 @@ fn around(base: Call) -> Vec<Edge> {
             if operation == Operation::Decode {
                 edges.of_bytes("tokens", |call| &mut call.tokens);
             }
-        }
-        Operation::CheckOpening => {
-            edges.of_seed_and_scheme();
-            edges.of_material();
-            edges.of_file_marks();
-            edges.of_opening();
         }
     }
     edges.of_room();
@@ -265,26 +256,7 @@ impl Edges {
         for scheme in 0..=255 {
             self.add(format!("scheme {scheme}"), |call| {
                 call.scheme = scheme;
-                call.lens = room(call).unwrap_or(vec![2000; call.lens.len()]);
-            });
-        }
-    }
-
-    /// An opening with each bit of its seed and of its run flipped; and garbage of several lengths, that of the
-    /// material among them, beside a scratch a byte short.
-    fn of_opening(&mut self) {
-        for bit in 0..128 {
-            self.add(format!("bit {bit} of the seed"), |call| {
-                call.seed[bit / 8] ^= 1 << (bit % 8)
-            });
-        }
-        for bit in 0..64 {
-            self.add(format!("bit {bit} of the run"), |call| call.run ^= 1 << bit);
-        }
-        for length in [0, 1, 2, 8, 9, self.base.material.len(), 1000] {
-            self.add(format!("{length} bytes, a short scratch"), |call| {
-                call.material = vec![0xEE; length];
-                call.lens[0] -= 1;
+                call.lens = room(call).unwrap_or(vec![2000; 3]);
             });
         }
     }

@@ -3,7 +3,6 @@
 
 use super::edges::Edge;
 use super::hashes::any_mark;
-use super::openings::open;
 use super::outputs::with_outputs;
 use super::{add_run, any_scheme, call_on, circuit, room, with_one_operand};
 use crate::block::BLOCK;
@@ -79,7 +78,6 @@ pub fn calls(random: &mut Random, operation: Operation, shape: usize) -> Option<
     let mut base = call_on(random, operation, &bytes);
     any_scheme(random, &mut base);
     any_mark(random, &mut base);
-    open(random, &mut base);
     base.lens = room(&base).expect("a sound call");
     let [n, m, q] = [2, 4, 6].map(|at| u16::from_be_bytes([bytes[at], bytes[at + 1]]));
     let mut calls = Calls {
@@ -98,9 +96,6 @@ pub fn calls(random: &mut Random, operation: Operation, shape: usize) -> Option<
     calls.of_lists();
     if !calls.base.material.is_empty() {
         calls.of_material();
-    }
-    if operation == Operation::CheckOpening {
-        calls.of_opening();
     }
     for edge in &mut calls.found {
         add_run(random, &mut edge.call);
@@ -216,14 +211,7 @@ impl Calls {
             let mark = material::Mark::of(&self.base.material).expect("a sound call");
             let record = last + 1 - mark.last_length(sizes.m) - (4 + BLOCK * rows);
             self.add("last row record", |call| call.material[record + 3] ^= 1);
-            self.add("last row", |call| call.material[record + 4] ^= 1);
         }
-    }
-
-    /// The opening of another garbling, by a bit of the seed or of the run.
-    fn of_opening(&mut self) {
-        self.add("a bit of the seed", |call| call.seed[15] ^= 1);
-        self.add("a bit of the run", |call| call.run ^= 1 << 63);
     }
 
     /// Lists of as many tokens as wires have numbers, and of one more.

@@ -3,7 +3,6 @@
 
 use super::damage::any_damaged_call;
 use super::hashes::{any_mark, BAD_MARKS};
-use super::openings::any_opening;
 use super::outputs::any_outputs;
 use super::{
     add_run, any_call, any_scheme, any_width, call_on, circuit, program_input, room,
@@ -56,7 +55,6 @@ fn sized(random: &mut Random, operation: Operation, n: u16, q: u16) -> Call {
     any_scheme(random, &mut call);
     any_mark(random, &mut call);
     add_run(random, &mut call);
-    any_opening(random, &mut call);
     call
 }
 
@@ -140,9 +138,8 @@ fn tamper_number(random: &mut Random, call: &mut Call) {
         call.width = any_width(random);
         return;
     }
-    match random.below(7) {
+    match random.below(6) {
         0 => call.scheme = random.byte(),
-        6 => call.run ^= 1 << random.below(64),
         5 => call.mark = random.one_of(&BAD_MARKS) ^ random.below(4) as u16,
         1 => call.bit = random.below(3) as u8,
         2 => call.wire = random.below(12) as u16,

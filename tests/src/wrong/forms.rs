@@ -47,7 +47,6 @@ pub fn all() -> Vec<Form> {
         evaluate(),
         output_tokens(),
         decode(),
-        opening(),
         chain(),
         fill(),
         clash(),
@@ -263,35 +262,6 @@ fn decode() -> Form {
         buffers: &[5],
         writers: &[Operation::Decode],
         cases: [refusal(), either, buffers(&[5])].concat(),
-    }
-}
-
-/// Circuit, seed, setting, material, answer, and what the scratch holds past its free bytes. A refusal, a yes and a
-/// no are of one length: a yes as a no, and the reverse; each as a refusal, and the reverse; and what is neither.
-fn opening() -> Form {
-    let other = [Right::Counted, Right::Zero].map(|right| (right, Damage::Byte(4, At::Last)));
-    let neither = [
-        (Right::Counted, Damage::Count(0)),
-        (Right::Zero, Damage::Byte(4, At::Index(1))),
-    ];
-    let mark = [Right::Counted, Right::Zero, Right::Refused, Right::NoRoom];
-    let mark = mark.map(|right| (right, Damage::Mark));
-    let past = [At::First, At::Last].map(|at| (Right::Past, Damage::Byte(5, at)));
-    Form {
-        file: "wrong-opening",
-        right: &["opening"],
-        answer: Some(4),
-        setting: Some((2, 1)),
-        buffers: &[5],
-        writers: &[],
-        cases: [
-            refusal(),
-            other.to_vec(),
-            neither.to_vec(),
-            mark.to_vec(),
-            past.to_vec(),
-        ]
-        .concat(),
     }
 }
 

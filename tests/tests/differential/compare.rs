@@ -10,7 +10,7 @@ use crate::archive;
 const SHOWN: usize = 2048;
 
 /// Runs the call on the archive and compares it with what must come back: the number, the four
-/// words, and every output buffer whole, but for its free bytes. Gives the answer of both.
+/// words, and every output buffer whole. Gives the answer of both.
 pub fn compare(call: &Call, skew: usize) -> Result<Answer, String> {
     let expected = interface::expected(call);
     let given = archive::run(call, &interface::buffers(call), skew)?;

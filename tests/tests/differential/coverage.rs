@@ -1,5 +1,5 @@
 //! How often each refusal of each operation was met, which codes of gates, which runs, which schemes, which
-//! outputs, which widths, which marks of material, and how openings were answered.
+//! outputs, which widths, and which marks of material.
 
 use std::collections::{BTreeMap, BTreeSet};
 
@@ -7,7 +7,6 @@ use second::call::{Call, Operation};
 use second::interface::{self, Answer};
 
 use crate::marks::Marks;
-use crate::openings::Openings;
 use crate::outputs;
 
 /// What was met.
@@ -19,8 +18,8 @@ pub struct Coverage {
     taken: BTreeSet<u8>,
     /// The codes at the places of refusal 7.
     refused: BTreeSet<u8>,
-    /// The calls of garble and of openings that gave each number, by the kind of their run.
-    runs: BTreeMap<(Operation, &'static str, u8), u64>,
+    /// The calls of garble that gave each number, by the kind of their run.
+    runs: BTreeMap<(&'static str, u8), u64>,
     /// The calls of each operation that has a scheme, by this and by the number given. Those not refused
     /// count where a gate is charged: else the scheme has no effect.
     schemes: BTreeMap<(Operation, u8, u8), u64>,
@@ -39,29 +38,23 @@ pub struct Coverage {
     refused_widths: BTreeSet<u64>,
     /// The marks of material.
     marks: Marks,
-    /// The answers to openings.
-    openings: Openings,
 }
 
 /// The operations that have a scheme.
-const WITH_SCHEME: [Operation; 5] = [
+const WITH_SCHEME: [Operation; 4] = [
     Operation::Garble,
     Operation::Evaluate,
     Operation::EvaluateGates,
     Operation::Decode,
-    Operation::CheckOpening,
 ];
-
-/// The operations that have a run.
-const WITH_RUN: [Operation; 2] = [Operation::Garble, Operation::CheckOpening];
 
 /// The codes that have rows.
 const CHARGED: [u8; 8] = [1, 2, 4, 7, 8, 11, 13, 14];
 
-/// The scheme of a call: the argument of garble and of an opening, or the material's byte.
+/// The scheme of a call: garble's argument, or the material's byte.
 fn scheme(call: &Call) -> Option<u8> {
     match call.operation {
-        Operation::Garble | Operation::CheckOpening => Some(call.scheme),
+        Operation::Garble => Some(call.scheme),
         _ => call.material.get(2).copied(),
     }
 }
@@ -96,8 +89,8 @@ impl Coverage {
     pub fn count(&mut self, call: &Call, answer: &Answer) {
         let of_number = (call.operation, answer.number);
         *self.numbers.entry(of_number).or_insert(0) += 1;
-        if WITH_RUN.contains(&call.operation) {
-            let of_run = (call.operation, kind(call.run), answer.number);
+        if call.operation == Operation::Garble {
+            let of_run = (kind(call.run), answer.number);
             *self.runs.entry(of_run).or_insert(0) += 1;
         }
         if answer.number == 0 {
@@ -107,7 +100,6 @@ impl Coverage {
         self.count_outputs(call, answer);
         self.count_width(call, answer);
         self.marks.count(call, answer);
-        self.openings.count(call, answer);
         if answer.number == 7 {
             let (codes, first) = codes(call);
             let index = answer.words[0] - first;
@@ -186,23 +178,16 @@ impl Coverage {
         missing
     }
 
-    /// Garble and openings gave every answer in runs of each kind (02, job 4): prints how often they were done,
-    /// and gives what was not met.
+    /// Garble gave every answer in runs of each kind (02, job 4): prints how often it was done, and
+    /// gives what was not met.
     pub fn report_runs(&self) -> Vec<String> {
+        let met = |kind, number| self.runs.get(&(kind, number)).copied().unwrap_or(0);
         let mut missing = Vec::new();
-        for (operation, kind) in WITH_RUN
-            .into_iter()
-            .flat_map(|operation| KINDS.map(|kind| (operation, kind)))
-        {
-            let name = interface::name(operation);
-            let met = |number| {
-                let met = self.runs.get(&(operation, kind, number));
-                met.copied().unwrap_or(0)
-            };
-            println!("coverage: {name}, run {kind}: done {}", met(0));
-            for &number in [0].iter().chain(operation.refusals()) {
-                if met(number) == 0 {
-                    missing.push(format!("{name}, run {kind}, never gave {number}"));
+        for kind in KINDS {
+            println!("coverage: garble, run {kind}: done {}", met(kind, 0));
+            for &number in [0].iter().chain(Operation::Garble.refusals()) {
+                if met(kind, number) == 0 {
+                    missing.push(format!("garble, run {kind}, never gave {number}"));
                 }
             }
         }
@@ -302,11 +287,6 @@ impl Coverage {
     /// Both marks of material were met as is due: gives what was not.
     pub fn report_marks(&self) -> Vec<String> {
         self.marks.report()
-    }
-
-    /// Openings were answered as is due: gives what was not met.
-    pub fn report_openings(&self) -> Vec<String> {
-        self.openings.report()
     }
 
     /// No operation gave a number that it has no argument for: none gave 22 to 24, which are kept for a reader of

@@ -1,32 +1,29 @@
 //! The second implementation against the proved library's archive, through the C interface: edges of every
 //! refusal, every two refusals at once, circuits at the limits, stored cases, and random calls for a time.
 //! What must come back is the second implementation's answer: the number, the four words, and the output
-//! buffers whole, but for the bytes that an opening may leave anything in.
+//! buffers whole.
 //!
 //! Of the random calls about a quarter of those with a scheme are by scheme 4, half of those that make or read
-//! material have hashes in it, half of those on a circuit's bytes have named outputs, half of garble's and of the
-//! openings are in run 0, and half of the openings are a yes. The longest circuit, of 720,879 bytes, is handed to
-//! every operation that takes bytes; every width up to 70 and some far past 64 to the comparator.
+//! material have hashes in it, half of those on a circuit's bytes have named outputs, and half of garble's are in
+//! run 0. The longest circuit, of 720,879 bytes, is handed to every operation that takes bytes; every width up to
+//! 70 and some far past 64 to the comparator.
 //!
 //! The last part, coverage, prints how often each was met, and fails where one of these was not: every
-//! refusal of every operation; codes 1 to 14 taken and all others refused; every answer of garble and of openings
-//! in runs of each kind, which are 0, with bits in the low half alone, in the high half alone, in both; each
-//! operation that has a scheme done by each of the four on a circuit with charged gates, each of its refusals after
-//! 14 by each, and all other schemes refused; each operation that takes bytes done with each mark, each kind of
+//! refusal of every operation; codes 1 to 14 taken and all others refused; every answer of garble in runs of
+//! each kind, which are 0, with bits in the low half alone, in the high half alone, in both; each operation
+//! that has a scheme done by each of the four on a circuit with charged gates, each of its refusals after 14
+//! by each, and all other schemes refused; each operation that takes bytes done with each mark, each kind of
 //! named outputs and the longest circuit; 25 and 26 at the first output, at the last and between; widths 1 to
 //! 64 taken and no other, with 0, 65, 2^32+8 and 2^64-1 refused; each operation that has a mark of material done
 //! with both, each of its refusals after 13 with both, other marks refused, 29 at the first output, at the last
-//! and between, and outputs decoded by either hash; openings answered often with yes and with no, by each scheme
-//! with each mark, a no for material of each kind that differs, and a yes without charged gates. It fails too where
-//! an operation gave a number that it does not have, 22 to 24, 27, 28 and 30 among them. A part without a call
-//! fails.
+//! and between, and outputs decoded by either hash. It fails too where an operation gave a number that it does
+//! not have, 22 to 24, 27, 28 and 30 among them. A part without a call fails.
 
 #[path = "../../src/archive.rs"]
 mod archive;
 mod compare;
 mod coverage;
 mod marks;
-mod openings;
 mod options;
 mod outputs;
 
@@ -143,8 +140,8 @@ impl Run {
     }
 
     /// The stored cases of a third reading of 01, of 01 with 02's job 2, with its jobs 2 and 4, with its jobs
-    /// 2, 4 and 7, with its jobs 2, 4, 7 and 8, with job 12 too, and with job 10 too. The second implementation
-    /// agrees with all of them.
+    /// 2, 4 and 7, with its jobs 2, 4, 7 and 8, and with job 12 too. The second implementation agrees with all
+    /// of them.
     fn stored(&mut self) {
         let base = include_str!("../../data/base.jsonl");
         let job02 = include_str!("../../data/job02.jsonl");
@@ -152,7 +149,6 @@ impl Run {
         let job07 = include_str!("../../data/job07.jsonl");
         let job08 = include_str!("../../data/job08.jsonl");
         let job12 = include_str!("../../data/job12.jsonl");
-        let job10 = include_str!("../../data/job10.jsonl");
         let files = [
             ("base", base),
             ("job02", job02),
@@ -160,7 +156,6 @@ impl Run {
             ("job07", job07),
             ("job08", job08),
             ("job12", job12),
-            ("job10", job10),
         ];
         for (name, text) in files {
             for case in &cases::read(text).expect("readable cases") {
@@ -203,8 +198,8 @@ impl Run {
     }
 
     /// Every refusal that an operation can give was met, and no other; every code, every scheme and every width,
-    /// taken or refused as is due, runs of every kind, both marks of a circuit, with outputs of every kind, both
-    /// marks of material, and openings answered with yes and with no.
+    /// taken or refused as is due, runs of every kind, both marks of a circuit, with outputs of every kind, and
+    /// both marks of material.
     fn all_met(&mut self) {
         let mut missing = self.coverage.report(&self.operations);
         missing.extend(self.coverage.report_codes());
@@ -213,7 +208,6 @@ impl Run {
         missing.extend(self.coverage.report_outputs());
         missing.extend(self.coverage.report_widths());
         missing.extend(self.coverage.report_marks());
-        missing.extend(self.coverage.report_openings());
         missing.extend(self.coverage.report_others());
         for missing in missing {
             println!("NOT MET: {missing}");

@@ -6,7 +6,7 @@ use std::collections::BTreeSet;
 use second::call::Operation;
 
 /// The operations that take a circuit's bytes.
-pub const WITH_BYTES: [Operation; 8] = [
+pub const WITH_BYTES: [Operation; 7] = [
     Operation::Check,
     Operation::Plain,
     Operation::Garble,
@@ -14,7 +14,6 @@ pub const WITH_BYTES: [Operation; 8] = [
     Operation::Evaluate,
     Operation::OutputTokens,
     Operation::Decode,
-    Operation::CheckOpening,
 ];
 
 /// The bytes of the longest circuit that there is: n 2, q 65,533, m 65,535.

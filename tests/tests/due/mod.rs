@@ -1,6 +1,5 @@
 //! What is due to a call, worked out once more, from its arguments, 01 and 02 alone. Library `second`
-//! gives only the call, the refusals that its operation has, the bytes made from a list, AES, and of an opening
-//! what garble writes.
+//! gives only the call, the refusals that its operation has, the bytes made from a list, and AES.
 
 use second::block::Block;
 use second::call::{Call, Operation};
@@ -96,10 +95,10 @@ impl Given<'_> {
         charged.map(|(_, wire)| wire).collect()
     }
 
-    /// The scheme byte: the argument of garble and of an opening, or the material's.
+    /// The scheme byte: garble's argument, or the material's.
     fn scheme(&self) -> u8 {
         match self.call.operation {
-            Operation::Garble | Operation::CheckOpening => self.call.scheme,
+            Operation::Garble => self.call.scheme,
             _ => self.call.material[2],
         }
     }
@@ -140,7 +139,6 @@ impl Given<'_> {
             Operation::Encode => vec![16 * n],
             Operation::OutputTokens => vec![16 * self.m],
             Operation::Evaluate | Operation::EvaluateGates => vec![16 * wires],
-            Operation::CheckOpening => vec![16 * wires],
             Operation::Decode => vec![self.m],
             Operation::Comparator => vec![28 * self.call.width as usize - 13],
         }
@@ -159,24 +157,9 @@ impl Given<'_> {
                 1 | 2 => vec![p],
                 _ => vec![2 * p],
             },
-            Operation::CheckOpening => vec![usize::from(self.is_own_material())],
             Operation::Comparator => self.room(),
             _ => vec![],
         }
-    }
-
-    /// Whether the material of an opening is what garble writes from the same arguments, with the mark that the
-    /// material has. Where garble is refused, which is 30 alone, it is not.
-    fn is_own_material(&self) -> bool {
-        let call = self.call;
-        let garbled = Call {
-            operation: Operation::Garble,
-            mark: if self.is_hashed() { 0x474A } else { 0x4748 },
-            lens: vec![self.material_length(), 16 * (self.n + self.q), 16 * self.n],
-            ..call.clone()
-        };
-        let outcome = garbled.run();
-        outcome.answer.is_ok() && outcome.buffers[0] == call.material
     }
 
     /// The place of a condition, if it holds. None before it does, so there is what it looks at.

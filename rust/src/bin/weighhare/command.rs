@@ -1,7 +1,7 @@
 //! What a command is, and the list of them.
 
 use crate::arguments::{Arguments, Takes};
-use crate::commands::{comparator, compare, decode, encode, evaluate, garble, open, pick, plain, seed, sizes};
+use crate::commands::{comparator, compare, decode, encode, evaluate, garble, pick, plain, seed, sizes};
 use crate::trouble::Trouble;
 use std::ffi::OsString;
 
@@ -29,7 +29,7 @@ impl Command {
     }
 }
 
-pub static COMMANDS: [&Command; 11] = [
+pub static COMMANDS: [&Command; 10] = [
     &compare::COMMAND,
     &sizes::COMMAND,
     &comparator::COMMAND,
@@ -39,7 +39,6 @@ pub static COMMANDS: [&Command; 11] = [
     &pick::COMMAND,
     &evaluate::COMMAND,
     &decode::COMMAND,
-    &open::COMMAND,
     &plain::COMMAND,
 ];
 
@@ -67,7 +66,7 @@ at all, and one that is there already is kept: --force replaces it. Seeds, token
 secret, and their files are made for their owner alone.
 
 Status: 0 done; 1 refused, and 'refused NUMBER PLACE: WHAT' on standard error; 2 wrong usage or trouble with a file, with a
-message on standard error; 3 open says no. Whoever is refused or has trouble has no file written.
+message on standard error. Whoever is refused or has trouble has no file written.
 
 Example:
 

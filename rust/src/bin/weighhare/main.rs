@@ -25,10 +25,8 @@ fn main() -> ExitCode {
     match run(&given) {
         Ok(()) => ExitCode::SUCCESS,
         Err(trouble) => {
-            // A no is printed already. Where a message cannot be written, there is nobody to tell.
-            if !matches!(trouble, Trouble::No) {
-                let _ = writeln!(io::stderr(), "{trouble}");
-            }
+            // Where the message cannot be written, there is nobody to tell.
+            let _ = writeln!(io::stderr(), "{trouble}");
             ExitCode::from(trouble.status())
         }
     }

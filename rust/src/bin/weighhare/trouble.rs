@@ -1,11 +1,10 @@
-//! What can go wrong, what is said of it, and the status that the program ends with where it is not 0.
+//! What can go wrong, what is said of it, and the status that the program ends with.
 
 use crate::command::Command;
 use std::fmt;
 use weighhare::Refusal;
 
-/// Why a command did not do its work, or that its answer is a no. No text has a figure, a token or a byte of a seed:
-/// these are secret.
+/// Why a command did not do its work. No text has a figure, a token or a byte of a seed: these are secret.
 pub enum Trouble {
     /// The library refused: status 1.
     Refused(Refusal),
@@ -16,8 +15,6 @@ pub enum Trouble {
     },
     /// Something else, most often a file: status 2.
     Failed(String),
-    /// What was opened is not what it should be, and `no` is printed: status 3, and no message.
-    No,
 }
 
 impl Trouble {
@@ -30,7 +27,6 @@ impl Trouble {
         match self {
             Self::Refused(_) => 1,
             Self::Usage { .. } | Self::Failed(_) => 2,
-            Self::No => 3,
         }
     }
 }
@@ -46,7 +42,6 @@ impl fmt::Display for Trouble {
         match self {
             Self::Refused(refusal) => write!(f, "refused {} {}: {refusal}", refusal.number(), refusal.place()),
             Self::Failed(message) => write!(f, "weighhare: {message}"),
-            Self::No => f.write_str("no"),
             Self::Usage { command: None, message } => {
                 write!(f, "weighhare: {message}: weighhare --help lists the commands")
             }

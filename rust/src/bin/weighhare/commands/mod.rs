@@ -6,7 +6,6 @@ pub mod decode;
 pub mod encode;
 pub mod evaluate;
 pub mod garble;
-pub mod open;
 pub mod pick;
 pub mod plain;
 pub mod seed;
