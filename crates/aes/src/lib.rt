@@ -1,4 +1,6 @@
 // AES-128 encryption (01, AES and doubling): FIPS 197, whose sections (§) are named.
+#![tactic(auto)]
+
 mod sbox; // the S-box
 mod steps; // the state, and the steps of a round
 mod schedule; // key expansion

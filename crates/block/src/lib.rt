@@ -1,4 +1,6 @@
 // Blocks, doubling and colours (01, AES and doubling; Tokens), and blocks in lent buffers.
+#![tactic(auto)]
+
 mod halves; // a block as a number in two words
 
 ghost use Rattle.std.specs.Prelude.{◌≡◌, cond, ◌+◌, ◌*◌, ◌≤◌, length, take, drop};

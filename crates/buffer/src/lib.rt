@@ -1,4 +1,6 @@
 // Bytes in lent buffers: big-endian numbers, and copies.
+#![tactic(auto)]
+
 ghost use Rattle.std.specs.Prelude.{◌≡◌, ◌+◌, ◌<◌, ◌≤◌, length, replicate};
 ghost use Rattle.model.specs.Bytes.{be16, two, over, put};
 

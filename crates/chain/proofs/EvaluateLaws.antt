@@ -34,12 +34,12 @@ module _ (c : List ℕ) (s : Sizes) (t : List ℕ) (start : EvaluateHanded c s t
 
       pub outputs_ready : OutputsHanded c s w'
       outputs_ready =
-          let a = (then_fine _ _ (rw (evaluate_verdict_law c (take (16 * s.n) t) f (length w)) at told.is_fine_law)).1 in
+          let a = (then_fine _ _ (rw (evaluate_verdict_law c (take (16 * s.n) t) f (length w)) at told.is_fine)).1 in
           let room = (rest_holds c (inputs c) _ f _ _ a).roomy in
           record {
             sized = start.sized;
             all_wires =
-                rw (is_n c s start.sized, is_q c s start.sized, answers.left, told.is_fine_law)
+                rw (is_n c s start.sized, is_q c s start.sized, answers.left, told.is_fine)
                 (omega (arith, room, over_long (evaluate_bytes (circuit_of c) (take (16 * s.n) t) f) w));
           }
 

@@ -87,7 +87,7 @@ garble_refused c seed want v f z o f' z' o' i x answers permitted =
 -- ---- garble ran
 module _ (c seed : List ℕ) (want : Wanted) (f z o f' z' o' : List ℕ) (made : Made) (ran : GarbleIs c seed want f z o (yes made) f' z' o') where
   both_fine : (garble_verdict c seed want (length f) (length z) (length o) ≡ fine) × (clash_verdict (garbling_of c seed want) ≡ fine)
-  both_fine = then_fine _ _ (yes_given _ made (garble_made c seed want) ran.answered).is_fine_law
+  both_fine = then_fine _ _ (yes_given _ made (garble_made c seed want) ran.answered).is_fine
 
   pub was_fine : garble_verdict c seed want (length f) (length z) (length o) ≡ fine
   was_fine = both_fine.0
@@ -172,7 +172,7 @@ module _ (c seed : List ℕ) (want : Wanted) (f z o f' z' o' : List ℕ) (made :
     -- ---- evaluate ran
     module _ (w w' : List ℕ) (evaluated : EvaluateIs c (take (16 * inputs c) t') file w (yes (evaluate_calls_of c (take (16 * inputs c) t') file)) w') where
       evaluate_was_fine : evaluate_verdict c (take (16 * inputs c) t') file (length w) ≡ fine
-      evaluate_was_fine = (yes_given _ (evaluate_calls_of c (take (16 * inputs c) t') file) (evaluate_calls_of c (take (16 * inputs c) t') file) evaluated.answered).is_fine_law
+      evaluate_was_fine = (yes_given _ (evaluate_calls_of c (take (16 * inputs c) t') file) (evaluate_calls_of c (take (16 * inputs c) t') file) evaluated.answered).is_fine
 
       pub wires_are : w' ≡ over (chain_tokens c seed want v) w
       unfolding chain_tokens

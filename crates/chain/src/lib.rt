@@ -1,5 +1,7 @@
 // The chain of demand 3 (01, Operations): garble, encode, evaluate and decode in turn, on one circuit; before decode the outputs' tokens are
 // taken from those of all wires (02, job 8).
+#![tactic(auto)]
+
 ghost use Rattle.chain.specs.Chain.{ChainIs};
 ghost use Rattle.chain.specs.Parts.{EncodeHanded, EncodeOn, EvaluateHanded, EvaluateOn, OutputsHanded, OutputsOn, DecodeHanded, DecodeOn};
 

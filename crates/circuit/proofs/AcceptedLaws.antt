@@ -24,7 +24,7 @@ module _ (c : List ℕ) (r : Checked) (is-r : checked_of r ≡ check_answer c) w
   pub check_accepted : (z : Sizes) → r ≡ Checked.Accepted z → Accepted c z
   check_accepted z e =
       let t = yes_given (circuit_verdict c) z (sizes_of c) (rw e at is-r) in
-      record { accepted = t.is_fine_law; sizes = t.is_result }
+      record { accepted = t.is_fine; sizes = t.is_result }
 
 -- ---- an accepted circuit
 module _ (c : List ℕ) (z : Sizes) (known : Accepted c z) where

@@ -28,11 +28,11 @@ module _ (s : List ℕ) (r : HeaderRead) (is-r : header_of r ≡ header_answer s
     told = yes_given (head_verdict s) h _ (rw e at is-r)
 
     holds : HeaderHolds s
-    holds = header_holds s told.is_fine_law
+    holds = header_holds s told.is_fine
 
     pub header_is : HeaderIs s h
     header_is = record {
-      head = told.is_fine_law;
+      head = told.is_fine;
       is_n = ap (λ (x : Header). x.n) told.is_result;
       is_m = ap (λ (x : Header). x.m) told.is_result;
       is_q = ap (λ (x : Header). x.q) told.is_result;
@@ -50,7 +50,7 @@ module _ (s : List ℕ) (r : HeaderRead) (is-r : header_of r ≡ header_answer s
       unfolding circuit_verdict ◌then◌
       check_gate f g =
           let z : no (verdict_of f) ≡ search_answer s (inputs s) (gates s) = rw (g, header_is.is_n, header_is.is_q) at is_t in
-          rw told.is_fine_law (no_then (gates_verdict s (inputs s) (gates s)) (verdict_of f) (outputs_verdict s) _ (sizes_of s) z)
+          rw told.is_fine (no_then (gates_verdict s (inputs s) (gates s)) (verdict_of f) (outputs_verdict s) _ (sizes_of s) z)
 
       -- and that of the output records
       module _ (p : ℕ) (g : t ≡ Searched.Clean p) (u : Ran) (is_u : ran_of u ≡ outputs_verdict s) where
@@ -59,11 +59,11 @@ module _ (s : List ℕ) (r : HeaderRead) (is-r : header_of r ≡ header_answer s
 
         pub check_output : (f : Refusal) → u ≡ Ran.Refused f → no (verdict_of f) ≡ check_answer s
         unfolding circuit_verdict ◌then◌
-        check_output f i = rw (told.is_fine_law, gates_told.is_fine_law, ← ran_refused u (outputs_verdict s) is_u f i)
+        check_output f i = rw (told.is_fine, gates_told.is_fine, ← ran_refused u (outputs_verdict s) is_u f i)
 
         pub check_accepted : u ≡ Ran.Done → yes (record { n = h.n; m = h.m; q = h.q; p = p }) ≡ check_answer s
         unfolding circuit_verdict ◌then◌ sizes_of circuit_of
         check_accepted i =
-            rw (told.is_fine_law, gates_told.is_fine_law, ← ran_done u (outputs_verdict s) is_u i, told.is_result, gates_told.is_result)
+            rw (told.is_fine, gates_told.is_fine, ← ran_done u (outputs_verdict s) is_u i, told.is_result, gates_told.is_result)
 
 pub ruleset check_cases = (check_header, header_is, search_inside, search_sum, check_gate, check_output, check_accepted)

@@ -98,7 +98,7 @@ module _ (c v o : List ℕ) where
           plain_done x is_x =
               let y : over (plain_values (circuit_of c) v) (over v o) ≡ over (plain_values (circuit_of c) v) o =
               over_over (plain_values (circuit_of c) v) o v (omega (arith, wires_many)) (omega (arith, wires_many, values.as_many, room)) in
-              let is_fine_law = ran_done t _ tried g in
-              record { answered = is_fine_law; left = rw (← is_fine_law) (is_x ∙ rw (front, is_d) y) }
+              let is_fine = ran_done t _ tried g in
+              record { answered = is_fine; left = rw (← is_fine) (is_x ∙ rw (front, is_d) y) }
 
 pub ruleset plain_cases = (plain_circuit, plain_turned, go_copy, go_gates, plain_done)

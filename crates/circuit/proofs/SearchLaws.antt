@@ -54,7 +54,7 @@ module _ (s : List ℕ) (n q k p : ℕ) (inv : Searching s n q k p) where
         record {
           within = omega arith;
           at_most = omega arith;
-          no_fault = first_next _ k inv.no_fault g.is_fine_law;
+          no_fault = first_next _ k inv.no_fault g.is_fine;
           counted = rw (add-one, tabulate_snoc k (gate_at s), charges_snoc, f, inv.counted, g.is_result);
         }
 

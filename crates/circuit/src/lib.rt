@@ -1,4 +1,6 @@
 // Circuits (01, Circuit): what a code means, the header, the gates, the outputs, their bytes, and the operations check and plain (01, Operations).
+#![tactic(auto)]
+
 ghost use Rattle.std.specs.Prelude.{◌≡◌};
 ghost use Rattle.model.specs.Operations.{checked_of, check_answer, ran_of, PlainIs};
 

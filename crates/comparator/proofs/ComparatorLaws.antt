@@ -87,9 +87,9 @@ module _ (w : ℕ) (o : List ℕ) where
           unfolding comparator_length
           write_starts = record { low = allowed.low; high = allowed.high; room = room_fine _ _ (sym (ran_done t _ is_t fits)) }
 
-          is_fine_law : fine ≡ comparator_verdict w (length o)
+          is_fine : fine ≡ comparator_verdict w (length o)
           unfolding comparator_verdict comparator_length
-          is_fine_law = then_done _ _ _ (ran_done r _ is_r done) (ran_done t _ is_t fits)
+          is_fine = then_done _ _ _ (ran_done r _ is_r done) (ran_done t _ is_t fits)
 
           front : take (comparator_length w) (over (comparator_bytes w) o) ≡ comparator_bytes w
           unfolding over
@@ -99,8 +99,8 @@ module _ (w : ℕ) (o : List ℕ) where
           unfolding comparator_length
           comparator_done x e =
               record {
-                answered = rw (← is_fine_law);
-                left = rw (← is_fine_law) e;
+                answered = rw (← is_fine);
+                left = rw (← is_fine) e;
                 is_comparator = λ _. rw (e, front) (compares w allowed.low allowed.high);
               }
 

@@ -1,5 +1,7 @@
 // The circuit that compares two figures, by their width (02, job 1): inputs 1 to w are the price, lowest bit first, the next w the ceiling,
 // and the one output is 1 exactly when price ≤ ceiling.
+#![tactic(auto)]
+
 ghost use Rattle.std.specs.Prelude.{◌≡◌, ◌-◌};
 ghost use Rattle.model.specs.Bytes.{over, put};
 ghost use Rattle.model.specs.Circuit.{record_bytes};

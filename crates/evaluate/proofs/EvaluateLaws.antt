@@ -21,10 +21,10 @@ use Rattle.evaluate.proofs.RestLaws.{rest_holds, evaluate_verdict_law}
 
 module _ (c ts s o : List ℕ) where
   -- nothing refuses
-  module _ (is_fine_law : evaluate_verdict c ts s (length o) ≡ fine) where
+  module _ (is_fine : evaluate_verdict c ts s (length o) ≡ fine) where
     pub evaluate_fine : (z : Sizes) → Accepted c z → WiresStart c ts s z.n z.q o
     evaluate_fine z known =
-        let holds = rest_holds c _ ts s _ _ (then_fine _ _ (rw (evaluate_verdict_law c ts s (length o)) at is_fine_law)).1 in
+        let holds = rest_holds c _ ts s _ _ (then_fine _ _ (rw (evaluate_verdict_law c ts s (length o)) at is_fine)).1 in
         record {
           tokens = rw (is_n c z known) holds.tokens;
           walk = record {
@@ -38,7 +38,7 @@ module _ (c ts s o : List ℕ) where
         }
 
     pub evaluate_made : (k : ℕ) (x : List ℕ) → WiresAre c ts s o k x → EvaluateIs c ts s o (yes k) x
-    evaluate_made k x is = record { answered = rw (is_fine_law, is.calls_made); left = rw is_fine_law is.left }
+    evaluate_made k x is = record { answered = rw (is_fine, is.calls_made); left = rw is_fine is.left }
 
   refused_is : (i x : ℕ) → refused i x ≡ evaluate_verdict c ts s (length o) → EvaluateIs c ts s o (no (refused i x)) o
   refused_is i x e = record { answered = rw (← e); left = rw (← e) }

@@ -424,7 +424,7 @@ module _ (ts s : List ℕ) (w : Walk) (g : Gate) (found : GateRead) (is_found : 
           is_m = t.is_m;
           is_q = t.is_q;
           within = omega arith;
-          no_fault = first_next _ w.k t.no_fault (at_record c is t.is_n ∙ v.is_fine_law);
+          no_fault = first_next _ w.k t.no_fault (at_record c is t.is_n ∙ v.is_fine);
           counted = rw (add-one, tabulate_snoc w.k (gate_at c), charges_snoc, ← is.is_g, ← t.counted, ← v.is_result);
           guessed = guess x e there passed asked.is_stride c t.is_n h is t.guessed;
           near = omega (arith, t.near, passed.near, asked.is_stride, record_high (get_or s 2 0));

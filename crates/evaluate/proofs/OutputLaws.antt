@@ -127,16 +127,16 @@ module _ (c ws o : List ℕ) where
       output_turned f g = refused_is _ _ (ran_refused t _ tried f g)
 
       module _ (g : t ≡ Ran.Done) where
-        is_fine_law : output_tokens_verdict c ws (length o) ≡ fine
-        is_fine_law = sym (ran_done t _ tried g)
+        is_fine : output_tokens_verdict c ws (length o) ≡ fine
+        is_fine = sym (ran_done t _ tried g)
 
         pub output_go : GatherStart c z ws o
         unfolding output_tokens_verdict
         output_go =
-            let a = then_fine _ _ is_fine_law in
+            let a = then_fine _ _ is_fine in
             record { sized = known; all_wires = tokens_fine _ ws (then_fine _ _ a.0).1; room = room_fine _ _ a.1 }
 
         pub output_done : (x : List ℕ) → x ≡ over (output_tokens (circuit_of c) ws) o → OutputTokensIs c ws o fine x
-        output_done x is_x = record { answered = sym is_fine_law; left = rw is_fine_law is_x }
+        output_done x is_x = record { answered = sym is_fine; left = rw is_fine is_x }
 
 pub ruleset output_cases = (output_circuit, output_turned, output_go, output_done)

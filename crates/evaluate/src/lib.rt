@@ -1,4 +1,6 @@
 // The evaluator's side (01, Operations): evaluate and decode, over anyone's material; and between them the outputs' tokens (02, job 8).
+#![tactic(auto)]
+
 ghost use Rattle.model.specs.Operations.{ran_of, evaluated_of, EvaluateIs, OutputTokensIs, DecodeIs};
 
 use crate::arguments::{check_rest, output_arguments};

@@ -63,14 +63,14 @@ module _ (c v zs os o : List ℕ) where
       encode_turned f g = refused_is _ _ (ran_refused t _ tried f g)
 
       module _ (g : t ≡ Ran.Done) where
-        is_fine_law : encode_verdict c v zs os (length o) ≡ fine
-        is_fine_law = sym (ran_done t _ tried g)
+        is_fine : encode_verdict c v zs os (length o) ≡ fine
+        is_fine = sym (ran_done t _ tried g)
 
         pub encode_go : EncodeStart z.n v zs os o
-        encode_go = rw (is_n c z known) (encode_fine c v zs os o is_fine_law)
+        encode_go = rw (is_n c z known) (encode_fine c v zs os o is_fine)
 
         pub encode_done : (x : List ℕ) → x ≡ over (join_blocks (encode v (cut z.n zs) (cut z.n os))) o → EncodeIs c v zs os o fine x
         unfolding encode_bytes circuit_of
-        encode_done x is_x = record { answered = sym is_fine_law; left = rw is_fine_law (is_x ∙ rw (is_n c z known)) }
+        encode_done x is_x = record { answered = sym is_fine; left = rw is_fine (is_x ∙ rw (is_n c z known)) }
 
 pub ruleset encode_cases = (encode_circuit, encode_turned, encode_go, encode_done)

@@ -74,19 +74,19 @@ module _ (c seed : List ℕ) (want : Wanted) (m z o : List ℕ) where
       garble_turned f g = refused_is _ _ (ran_refused t _ tried f g)
 
       module _ (g : t ≡ Ran.Done) where
-        is_fine_law : garble_verdict c seed want (length m) (length z) (length o) ≡ fine
-        is_fine_law = sym (ran_done t _ tried g)
+        is_fine : garble_verdict c seed want (length m) (length z) (length o) ≡ fine
+        is_fine = sym (ran_done t _ tried g)
 
         pub garble_go : WholeStart c seed want s m z o
-        garble_go = rw known.sizes (garble_fine c seed want m z o is_fine_law)
+        garble_go = rw known.sizes (garble_fine c seed want m z o is_fine)
 
         pub garble_done : (r : Answer Made) (m' z' o' : List ℕ) → OutcomeIs c seed want m z o r m' z' o' → GarbleIs c seed want m z o r m' z' o'
         unfolding ◌then◌
         garble_done r m' z' o' done = record {
-          answered = rw is_fine_law done.answered;
-          material_left = rw is_fine_law done.material_left;
-          zeros_left = rw is_fine_law done.zeros_left;
-          ones_left = rw is_fine_law done.ones_left;
+          answered = rw is_fine done.answered;
+          material_left = rw is_fine done.material_left;
+          zeros_left = rw is_fine done.zeros_left;
+          ones_left = rw is_fine done.ones_left;
         }
 
 pub ruleset garble_cases = (garble_circuit, garble_turned, garble_go, garble_done)

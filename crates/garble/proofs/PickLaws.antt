@@ -19,13 +19,13 @@ use Rattle.garble.specs.Pick.{place_in, PartIs}
 -- ---- pick: r is the answer of its check
 module _ (zs os : Bor (List ℕ)) (w b : ℕ) (r : Ran) (is_r : ran_of r ≡ pick_verdict zs.now os.now w b) where
   module _ (e : r ≡ Ran.Done) where
-    is_fine_law : pick_verdict zs.now os.now w b ≡ fine
-    is_fine_law = sym (rw e at is_r)
+    is_fine : pick_verdict zs.now os.now w b ≡ fine
+    is_fine = sym (rw e at is_r)
 
     -- the lengths, and the wire
     told : (refuse (not (eqb (length zs.now) (length os.now) && eqb (length zs.now % 16) 0)) 11 (length zs.now) ≡ fine) × (refuse (not (leb 1 w && leb (16 * w) (length zs.now))) 20 w ≡ fine)
     unfolding pick_verdict
-    told = let a = then_fine _ _ is_fine_law in let d = then_fine _ _ a.0 in (d.1, a.1)
+    told = let a = then_fine _ _ is_fine in let d = then_fine _ _ a.0 in (d.1, a.1)
 
     same : length zs.now ≡ length os.now
     same = eqb-true _ _ (and_both _ (eqb (length zs.now % 16) 0) (not-false _ (refuse_fine _ _ _ told.0))).0
@@ -50,12 +50,12 @@ module _ (zs os : Bor (List ℕ)) (w b : ℕ) (r : Ran) (is_r : ran_of r ≡ pic
       pub picked_zero : b ≡ 0 → part.ref_ptr ≡ place_in zs (16 * (w - 1))
           → part.now ≡ take ((16 * (w - 1) + 16) - 16 * (w - 1)) (drop (16 * (w - 1)) zs.now) → PartIs zs os w b part
       unfolding pick_part token_at
-      picked_zero h place bytes = record { bytes = bytes ∙ simp (is_fine_law, eq-eqb _ _ h, sixteen); place = λ _. place ∙ simp (eq-eqb _ _ h) }
+      picked_zero h place bytes = record { bytes = bytes ∙ simp (is_fine, eq-eqb _ _ h, sixteen); place = λ _. place ∙ simp (eq-eqb _ _ h) }
 
       pub picked_one : (b ≡ 0 → ⊥) → part.ref_ptr ≡ place_in os (16 * (w - 1))
           → part.now ≡ take ((16 * (w - 1) + 16) - 16 * (w - 1)) (drop (16 * (w - 1)) os.now) → PartIs zs os w b part
       unfolding pick_part token_at
-      picked_one h place bytes = record { bytes = bytes ∙ simp (is_fine_law, ne_eqb _ _ h, sixteen); place = λ _. place ∙ simp (ne_eqb _ _ h) }
+      picked_one h place bytes = record { bytes = bytes ∙ simp (is_fine, ne_eqb _ _ h, sixteen); place = λ _. place ∙ simp (ne_eqb _ _ h) }
 
   pub picked_none : (f : Refusal) → r ≡ Ran.Refused f → (part : Bor (List ℕ)) → part.now ≡ [] → PartIs zs os w b part
   unfolding pick_part

@@ -1,4 +1,6 @@
 // The garbler's side (01, Operations): garble, encode and pick.
+#![tactic(auto)]
+
 ghost use Rattle.std.specs.Prelude.{◌≡◌};
 ghost use Rattle.model.specs.Refusals.{pick_verdict};
 ghost use Rattle.model.specs.Operations.{ran_of, garbled_of, GarbleIs, EncodeIs};

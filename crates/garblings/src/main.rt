@@ -1,5 +1,7 @@
 // The test program of garble: garblings made by others against the proved function. Each file of data/ has a case a line, and
 // each prints how many of its cases agree.
+#![tactic(auto)]
+
 use crate::text::run;
 use cases::file::{print_tally, read_file};
 use cases::room;

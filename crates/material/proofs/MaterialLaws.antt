@@ -77,7 +77,7 @@ module _ (c : List ℕ) (z : Sizes) (s : List ℕ) (known : Accepted c z) where
           last_inside = omega (arith, start, last_low (hashed s) z.m, at_last.is_result)
 
           pub material_last : (u : Ran) → ran_of u ≡ last_verdict s last.at z.m → ran_of u ≡ material_verdict (circuit_of c) s
-          material_last u is_u = by_last c z s filed at_last.is_fine_law (ran_of u) last.at at_last.is_result is_u
+          material_last u is_u = by_last c z s filed at_last.is_fine (ran_of u) last.at at_last.is_result is_u
 
 pub ruleset material_cases = (material_file, material_record, material_last)
 

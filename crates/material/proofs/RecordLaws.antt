@@ -189,7 +189,7 @@ module _ (c : List ℕ) (z : Sizes) (s : List ℕ) (known : Filed c z s) where
         pub turn_next : (there : Cursor) → r ≡ Step.Next there → Reading c s z.q (k + 1) there
         turn_next there e =
             let t = yes_given (row_verdict (circuit_of c) s k) there.at (row_start (circuit_of c) s (k + 1)) (rw e at is-r) in
-            record { within = omega arith; no_fault = first_next _ k inv.no_fault t.is_fine_law; placed = t.is_result }
+            record { within = omega arith; no_fault = first_next _ k inv.no_fault t.is_fine; placed = t.is_result }
 
         pub turn_fault : (f : Refusal) → r ≡ Step.Fault f → verdict_of f ≡ records_verdict c s
         turn_fault f e = go (no_turned (row_verdict (circuit_of c) s k) (verdict_of f) _ (rw e at is-r))

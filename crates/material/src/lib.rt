@@ -1,4 +1,6 @@
 // The material file (01, Material): its lengths, its refusals 12 to 18, and the way from one of its records to the next.
+#![tactic(auto)]
+
 ghost use Rattle.std.specs.Prelude.{◌≡◌, ◌≤◌};
 ghost use Rattle.model.specs.Circuit.{circuit_of};
 ghost use Rattle.model.specs.Scheme.{record_length};

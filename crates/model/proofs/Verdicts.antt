@@ -160,11 +160,11 @@ module _ (f : ℕ → Verdict) (m : ℕ) where
 -- ---- what an answer tells of its verdict
 
 pub record Given {A : Type 0} (v : Verdict) (a b : A) : Type 0 where
-  pub is_fine_law : v ≡ fine
+  pub is_fine : v ≡ fine
   pub is_result : a ≡ b
 
 pub yes_given : {A : Type 0} (v : Verdict) (a b : A) → yes a ≡ answer v b → Given v a b
-yes_given fine a b e = record { is_fine_law = refl; is_result = cc }
+yes_given fine a b e = record { is_fine = refl; is_result = cc }
 yes_given (refused i x) a b e = absurd (let z : ◌≡◌ {A = ℕ} 0 1 = cc in omega arith)
 
 -- v and w are the same refusal

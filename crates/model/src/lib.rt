@@ -1,5 +1,7 @@
 // The types of document 01. No work is done here: specs/ says what is meant, and the crates above are proved against it.
 
+#![tactic(auto)]
+
 // A wire number, from 1 (01, Circuit). It lies as in C, since `Gate` has two of them.
 #[repr(C)]
 #[derive(Drop)]

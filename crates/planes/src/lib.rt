@@ -1,4 +1,6 @@
 // AES-128 of four blocks at once, in planes: no look-up and no branch by data. FIPS 197, whose sections (§) are named.
+#![tactic(auto)]
+
 mod planes; // the state in planes, and the steps of a round
 mod sbox; // the S-box as a circuit
 mod rotations; // planes rotated, which moves rows and columns

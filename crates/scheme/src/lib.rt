@@ -1,5 +1,7 @@
 // One gate, garbled and opened, by each of the four schemes (01, Tokens and Scheme 1 to Scheme 3; 02, job 7).
 // Garbling is lent the schedule of π's fixed key in planes, k, and the S-box, t, for public keys alone; opening, the T-tables of AES and that schedule, w.
+#![tactic(auto)]
+
 mod cipher; // the dual-key cipher, and a bit times a block
 mod free; // free gates
 mod gax; // schemes 1 and 2

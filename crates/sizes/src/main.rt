@@ -1,5 +1,7 @@
 // The program of 01 (Table of examples): reads a circuit from standard input and prints what `text` makes of it. One byte more than the
 // 65,536 that a circuit may have is enough to know that there are more (`program-front` of crates/model/proofs/Program.antt).
+#![tactic(auto)]
+
 use libc::{STDIN_FILENO, STDOUT_FILENO};
 use text::program_text;
 

@@ -1,4 +1,6 @@
 // What the program prints (01, Table of examples), written to a buffer: decimal numbers, lines, and the whole text of an input.
+#![tactic(auto)]
+
 ghost use Rattle.std.specs.Prelude.{◌≤◌, length};
 ghost use Rattle.model.specs.Program.{program_text};
 ghost use Rattle.text.specs.Written.{Wrote, TextIs};

@@ -1,6 +1,8 @@
 // The test program: outside vectors against the proved functions, all but garble, which has a program of its own, and evaluate's list
 // form, whose cases the tests in Rust run on the archive. Each file of data/ has a case a line, and each group prints how many of its
 // cases agree.
+#![tactic(auto)]
+
 use crate::text::run;
 use cases::file::{print_tally, read_file};
 use cases::room;

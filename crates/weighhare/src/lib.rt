@@ -1,5 +1,7 @@
 // The C interface: the operations of 01 and of 02 as exported functions, declared and explained in include/weighhare.h. Each returns the
 // refusal's number, 0 if none, and sets out the rest of its answer in four words.
+#![tactic(auto)]
+
 ghost use Rattle.std.specs.Prelude.{◌≡◌};
 ghost use Rattle.model.specs.Operations.{check_answer, PlainIs, GarbleIs, EncodeIs, EvaluateIs, EvaluateGatesIs, OutputTokensIs, DecodeIs};
 ghost use Rattle.comparator.specs.Comparator.{ComparatorIs};

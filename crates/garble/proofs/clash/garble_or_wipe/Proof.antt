@@ -7,7 +7,7 @@ wipe_requires : tie.Need-wipe-requires
 wipe_requires c κs =
     let sized = c.before.before.before.before.before.before.before.before in
     let whole = sized.before.before.before.before.before.before.before in
-    outcome_wipe _ _ _ _ _ _ _ whole.before.before.before.before.before.before.before.before.before.requires _ _ _ _ whole.garble-whole.ensures _ sized.file_length_law.ensures
+    outcome_wipe _ _ _ _ _ _ _ whole.before.before.before.before.before.before.before.before.before.requires _ _ _ _ whole.garble-whole.ensures _ sized.file-length.ensures
 
 returns : tie.Need-returns
 returns c =
@@ -16,7 +16,7 @@ returns c =
     let found = arm.before.before in
     let sized = found.before.before in
     let whole = sized.before.before.before.before.before.before.before in
-    outcome_wiped _ _ _ _ _ _ _ whole.before.before.before.before.before.before.before.before.before.requires _ _ _ _ whole.garble-whole.ensures _ sized.file_length_law.ensures _ found.find-clash.ensures _ arm.f.given.1 _ _ _
+    outcome_wiped _ _ _ _ _ _ _ whole.before.before.before.before.before.before.before.before.before.requires _ _ _ _ whole.garble-whole.ensures _ sized.file-length.ensures _ found.find-clash.ensures _ arm.f.given.1 _ _ _
     wiped.wipe.ensures
 
 returns_2 : tie.Need-returns-2
@@ -24,7 +24,7 @@ returns_2 c =
     let found = c.before.before in
     let sized = found.before.before in
     let whole = sized.before.before.before.before.before.before.before in
-    outcome_done _ _ _ _ _ _ _ whole.before.before.before.before.before.before.before.before.before.requires _ _ _ _ whole.garble-whole.ensures _ sized.file_length_law.ensures _ found.find-clash.ensures c.enum_told.given.1
+    outcome_done _ _ _ _ _ _ _ whole.before.before.before.before.before.before.before.before.before.requires _ _ _ _ whole.garble-whole.ensures _ sized.file-length.ensures _ found.find-clash.ensures c.enum_told.given.1
 
 pub garble_or_wipe_spec : {M : Type 1} → statement M
 garble_or_wipe_spec =
