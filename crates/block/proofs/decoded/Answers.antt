@@ -4,8 +4,7 @@ use mathlib.Core.Path.{◌≡◌}
 use lib.Bits.{bit_xor, xor_lt}
 use Rattle.model.specs.Tokens.{decoded}
 use Rattle.model.proofs.Xor.{xor_digit}
-use Rattle.block.proofs.decoded.Statement.{statement}
-use Rattle.block.proofs.decoded.Tie as tie
+use Rattle.block.proofs.decoded.Goals as goal
 
 -- of two bits
 module _ (c x : ℕ) (hc : c ≤ 1) (hx : x ≤ 1) where
@@ -15,8 +14,5 @@ module _ (c x : ℕ) (hc : c ≤ 1) (hx : x ≤ 1) where
   decoded_low : bit_xor c x ≤ 1
   decoded_low = omega (arith, xor_lt 1 c x (omega arith) (omega arith))
 
-returns : tie.Need-returns
+pub returns : goal.returns
 returns c = (search is_decoded, search decoded_low)
-
-pub decoded_spec : {M : Type 1} → statement M
-decoded_spec = tie.close (tie.spec returns)

@@ -1,0 +1,10 @@
+use Prim.Native.Nat.{◌+◌, ◌-◌}
+use lib.ListN.{get_or}
+use Rattle.block.proofs.Fill.{Filled}
+use Rattle.block.proofs.load.Given as goal
+
+abbrev pub invariant-loop-i : goal.invariant-loop-i
+invariant-loop-i l = Filled 16 16 (λ k. get_or l.s (l.at + k) 0) l.i l.x
+
+abbrev pub decreases-loop-i : goal.decreases-loop-i
+decreases-loop-i l = 16 - l.i
