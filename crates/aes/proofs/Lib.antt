@@ -1,6 +1,6 @@
 -- Laws that the proofs of the functions cite.
 mod Joined
-pub mod Words
+pub mod WordLaws
 mod Rounds
 pub mod Packing
 mod Tables

@@ -9,7 +9,7 @@ use crate::packed::Words;
 use block::Block;
 
 // Two blocks.
-#[derive(Drop)]
+#[derive(Clone, Copy)]
 pub struct Pair {
     pub x: Block,
     pub y: Block,

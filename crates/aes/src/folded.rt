@@ -9,7 +9,7 @@ use crate::packed::Words;
 use block::Block;
 
 // Four columns, the last two in one word, the third in its lower half.
-#[derive(Drop)]
+#[derive(Clone, Copy)]
 pub struct Folded {
     pub a: u32,
     pub b: u32,

@@ -8,7 +8,7 @@ ghost use Rattle.aes.specs.Round.{IsRoundKey, Spread};
 use block::Block;
 
 // The four columns of a state.
-#[derive(Drop)]
+#[derive(Clone, Copy)]
 pub struct Words {
     pub a: u32,
     pub b: u32,

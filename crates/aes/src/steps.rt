@@ -5,7 +5,7 @@ ghost use Rattle.model.specs.Aes.{IsSBox, xtime, mix_byte, mix_word, sub_bytes, 
 use crate::sbox::sub;
 
 // A block on its way through the rounds, §3.4: byte r + 4c is row r of column c.
-#[derive(Drop)]
+#[derive(Clone, Copy)]
 pub struct State {
     pub bytes: [u8; 16],
 }

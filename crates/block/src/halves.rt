@@ -9,7 +9,7 @@ ghost use Rattle.block.specs.Halves.{low_first, block_of};
 use crate::Block;
 
 // The number's high and low half.
-#[derive(Drop)]
+#[derive(Clone, Copy)]
 pub struct Halves {
     pub high: u64,
     pub low: u64,

@@ -13,7 +13,7 @@ pub use halves::Halves;
 use model::{Colour, Truth};
 
 // "A block is 16 bytes."
-#[derive(Drop)]
+#[derive(Clone, Copy)]
 pub struct Block {
     pub bytes: [u8; 16],
 }

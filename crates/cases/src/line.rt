@@ -3,14 +3,14 @@ ghost use Rattle.std.specs.Prelude.{◌+◌, ◌≤◌, ◌<◌, length};
 ghost use Rattle.cases.specs.Fields.{FieldFits, FourFit, CutsFit};
 
 // Where a field ends in the buffer that it was decoded to, and in the text.
-#[derive(Drop)]
+#[derive(Clone, Copy)]
 struct Field {
     end: usize,
     next: usize,
 }
 
 // Where four fields end in the buffer that they were decoded to, and the last of them in the text.
-#[derive(Drop)]
+#[derive(Clone, Copy)]
 struct Four {
     a: usize,
     b: usize,
@@ -20,7 +20,7 @@ struct Four {
 }
 
 // Where seven fields end in the buffer that they were decoded to, the first from its start.
-#[derive(Drop)]
+#[derive(Clone, Copy)]
 pub struct Cuts {
     pub a: usize,
     pub b: usize,

@@ -11,7 +11,7 @@ use garble::{encode, garble};
 use model::{Checked, Evaluated, Garbled, Ran, Refusal, Sizes, Wanted};
 
 // Where the chain ended: all ran, or one of them refused.
-#[derive(Drop)]
+#[derive(Clone, Copy)]
 pub enum Chained {
     Done,
     Garble(Refusal),

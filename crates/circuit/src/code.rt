@@ -137,7 +137,7 @@ pub fn used_charge(code: u8) -> usize
 }
 
 // Which operands a free gate takes: whether a, and whether b with it. One that does not take a takes b.
-#[derive(Drop)]
+#[derive(Clone, Copy)]
 pub struct Takes {
     pub a: Truth,
     pub both: Truth,

@@ -8,14 +8,14 @@ use buffer::read16;
 use model::{Gate, Kind, Refusal, Wire};
 
 // What one gate is found to be.
-#[derive(Drop)]
+#[derive(Clone, Copy)]
 pub enum GateRead {
     Fine(usize), // what it adds to p
     Fault(Refusal),
 }
 
 // What the search finds: the number of charged gates, or the first fault.
-#[derive(Drop)]
+#[derive(Clone, Copy)]
 pub enum Searched {
     Clean(usize),
     Fault(Refusal),

@@ -7,14 +7,14 @@ use buffer::read16;
 use model::Refusal;
 
 // A circuit's counts of inputs, outputs and gates.
-#[derive(Drop)]
+#[derive(Clone, Copy)]
 pub struct Header {
     pub n: usize,
     pub m: usize,
     pub q: usize,
 }
 
-#[derive(Drop)]
+#[derive(Clone, Copy)]
 pub enum HeaderRead {
     Fine(Header),
     Refused(Refusal),

@@ -4,7 +4,7 @@ ghost use Rattle.circuit.specs.Answers.{TurnedIs};
 
 use model::Refusal;
 
-#[derive(Drop)]
+#[derive(Clone, Copy)]
 pub struct Turned {
     pub number: u8,
     pub place: usize,

@@ -13,7 +13,7 @@ use crate::gates::gate_at;
 use model::{Ran, Sizes, Truth};
 
 // What the search of a value list finds: each value is a bit, or the index of the first that is none.
-#[derive(Drop)]
+#[derive(Clone, Copy)]
 pub enum Bits {
     Fine,
     Fault(usize),

@@ -15,7 +15,7 @@ use planes::slice_one;
 use scheme::hash_output;
 
 // Whether the hash of an output's token differs from that stored for value 0, and from that for value 1: 0 where it agrees, else 1.
-#[derive(Drop)]
+#[derive(Clone, Copy)]
 pub struct Differing {
     pub zero: u8,
     pub one: u8,

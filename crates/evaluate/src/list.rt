@@ -28,7 +28,7 @@ use model::{Evaluated, Gate, Ran, Refusal, Sizes, Wire};
 
 // Where the walk over the records stands. What it no longer needs stays as it was when it is over: what no turn changes is then kept
 // in registers.
-#[derive(Drop)]
+#[derive(Clone, Copy)]
 pub struct Walk {
     pub pass: u8, // 0, 1 or 2; 3 if it is over
     pub k: usize, // the gate to go to, from 0

@@ -68,7 +68,7 @@ pub fn write_charged(
 }
 
 // Between two gates: where the next row record stands, and the encryptions made so far.
-#[derive(Drop)]
+#[derive(Clone, Copy)]
 struct SoFar {
     here: Cursor,
     calls: usize,

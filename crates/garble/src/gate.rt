@@ -16,7 +16,7 @@ use model::{Truth, Wire};
 use scheme::{GarbledGate, Site, garble_gate};
 
 // A gate as it was read: its code, its own wire, and the zero tokens of its operands.
-#[derive(Drop)]
+#[derive(Clone, Copy)]
 pub struct GateIn {
     pub code: u8,
     pub own: Wire,

@@ -8,7 +8,7 @@ use material::{record_length, rows_stored};
 use model::Wanted;
 
 // What is wanted and of which seed; the rows that the scheme stores, and the bytes of a charged gate's record; the inputs, and the offset R.
-#[derive(Drop)]
+#[derive(Clone, Copy)]
 pub struct Plan {
     pub wanted: Wanted,
     pub seed: Block,

@@ -10,7 +10,7 @@ use block::{Block, Halves, store};
 use planes::{Four, encrypt_four};
 
 // Four of the seed's blocks, and the wires that they are of.
-#[derive(Drop)]
+#[derive(Clone, Copy)]
 pub struct Held {
     pub i: usize,
     pub j: usize,
@@ -43,7 +43,7 @@ pub fn hold(ks: &[u64; 88], run: u64, i: usize, j: usize, k: usize, l: usize) ->
 }
 
 // A block, and what is held once it was taken.
-#[derive(Drop)]
+#[derive(Clone, Copy)]
 pub struct Taken {
     pub held: Held,
     pub block: Block,

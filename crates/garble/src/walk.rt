@@ -35,7 +35,7 @@ pub fn read_operands(circuit: &[u8], n: usize, k: usize, zeros: &[u8]) -> GateIn
 }
 
 // What a gate comes to: the place of the next record, and the encryptions that were made for it.
-#[derive(Drop)]
+#[derive(Clone, Copy)]
 pub struct Stepped {
     pub at: usize,
     pub calls: usize,

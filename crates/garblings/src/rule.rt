@@ -6,7 +6,7 @@ ghost use Rattle.std.specs.Prelude.{◌+◌, ◌*◌, ◌<◌, ◌≤◌, length
 use buffer::{copy_front, copy_to};
 
 // Inputs, outputs, gates, the period (0 where no gate is charged), and where the generator starts.
-#[derive(Drop)]
+#[derive(Clone, Copy)]
 pub struct Rule {
     pub n: usize,
     pub m: usize,

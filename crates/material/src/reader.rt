@@ -12,14 +12,14 @@ use buffer::read16;
 use model::Wire;
 
 // The material, and where in it the reader is.
-#[derive(Drop)]
+#[derive(Clone, Copy)]
 pub struct Reader<'a> {
     pub material: &'a [u8],
     pub at: usize,
 }
 
 // What stands at a place of a material.
-#[derive(Drop)]
+#[derive(Clone, Copy)]
 pub enum Standing {
     // A charged gate's record, with its wire number: all of its rows lie within the material.
     Gate(Wire),
@@ -32,7 +32,7 @@ pub enum Standing {
 }
 
 // What stands at a place, and the place past it.
-#[derive(Drop)]
+#[derive(Clone, Copy)]
 pub struct Record {
     pub standing: Standing,
     pub next: usize,

@@ -9,13 +9,13 @@ use circuit::gates::gate_at;
 use model::{Kind, Refusal, Sizes, Wire};
 
 // A place in a material: where a marked record starts.
-#[derive(Drop)]
+#[derive(Clone, Copy)]
 pub struct Cursor {
     pub at: usize,
 }
 
 // What a step over the records finds: where the next one starts, or the fault.
-#[derive(Drop)]
+#[derive(Clone, Copy)]
 pub enum Step {
     Next(Cursor),
     Fault(Refusal),

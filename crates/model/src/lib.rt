@@ -4,21 +4,21 @@
 
 // A wire number, from 1 (01, Circuit). It lies as in C, since `Gate` has two of them.
 #[repr(C)]
-#[derive(Drop)]
+#[derive(Clone, Copy)]
 pub struct Wire(pub u16);
 
 // A truth value, 0 or 1: what the plain circuit carries on a wire (01, Circuit; "semantics" in source 000).
-#[derive(Drop)]
+#[derive(Clone, Copy)]
 pub struct Truth(pub u8);
 
 // The colour of a token, 0 or 1 (01, Tokens; the permute bit, "type" in source 000). It is not a truth value.
-#[derive(Drop)]
+#[derive(Clone, Copy)]
 pub struct Colour(pub u8);
 
 // A gate as a circuit has it: two operands, which are wires, and a code, which is its truth table (01, Circuit).
 // Its fields lie as in C, so that a caller in C can hand in a list of them.
 #[repr(C)]
-#[derive(Drop)]
+#[derive(Clone, Copy)]
 pub struct Gate {
     pub a: Wire,
     pub b: Wire,
@@ -26,7 +26,7 @@ pub struct Gate {
 }
 
 // What a code means (01, Circuit and Scheme 3).
-#[derive(Drop)]
+#[derive(Clone, Copy)]
 pub enum Kind {
     // An AND-type gate: the pair u, v of truth values that has a value of its own, and that value.
     Charged(Truth, Truth, Truth),
@@ -37,7 +37,7 @@ pub enum Kind {
 
 // A refusal, a case for each number of 01's list and of 02's, with what its place is made from.
 // `number_of` and `place_of` of specs/Refusals.antt give each case its number and its place.
-#[derive(Drop)]
+#[derive(Clone, Copy)]
 pub enum Refusal {
     CircuitShort(usize),
     CircuitMark,
@@ -72,7 +72,7 @@ pub enum Refusal {
 }
 
 // A circuit's sizes: inputs, outputs, gates, charged gates (01, Circuit).
-#[derive(Drop)]
+#[derive(Clone, Copy)]
 pub struct Sizes {
     pub n: usize,
     pub m: usize,
@@ -82,7 +82,7 @@ pub struct Sizes {
 
 // What garbling is asked for beside the circuit and the seed: the run number (02, job 4), the scheme by its byte (01, Operations), and the
 // material's mark (02, job 12), 47 48 or 47 4A.
-#[derive(Drop)]
+#[derive(Clone, Copy)]
 pub struct Wanted {
     pub run: u64,
     pub scheme: u8,
@@ -90,35 +90,35 @@ pub struct Wanted {
 }
 
 // The answer of check.
-#[derive(Drop)]
+#[derive(Clone, Copy)]
 pub enum Checked {
     Accepted(Sizes),
     Refused(Refusal),
 }
 
 // The answer of an operation whose only results are the bytes that it writes.
-#[derive(Drop)]
+#[derive(Clone, Copy)]
 pub enum Ran {
     Done,
     Refused(Refusal),
 }
 
 // The answer of garble: the material's length and the encryptions, or the refusal.
-#[derive(Drop)]
+#[derive(Clone, Copy)]
 pub enum Garbled {
     Done { length: usize, calls: usize },
     Refused(Refusal),
 }
 
 // The answer of evaluate: the encryptions, or the refusal.
-#[derive(Drop)]
+#[derive(Clone, Copy)]
 pub enum Evaluated {
     Done(usize),
     Refused(Refusal),
 }
 
 // The answer of what writes a circuit or a text: its length (02, job 1), or the refusal.
-#[derive(Drop)]
+#[derive(Clone, Copy)]
 pub enum Wrote {
     Done(usize),
     Refused(Refusal),

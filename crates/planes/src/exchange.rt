@@ -4,7 +4,7 @@ ghost use Rattle.planes.specs.Exchange.{Alternates, Swapped, Exchanged, SwappedP
 use crate::planes::Planes;
 
 // Two words.
-#[derive(Drop)]
+#[derive(Clone, Copy)]
 struct Two {
     u: u64,
     v: u64,
@@ -90,7 +90,7 @@ pub fn spread(x: Planes) -> Planes
 }
 
 // Two pairs of words.
-#[derive(Drop)]
+#[derive(Clone, Copy)]
 pub struct Pairs {
     pub a: u64,
     pub b: u64,

@@ -7,7 +7,7 @@ use crate::planes::Planes;
 use block::Block;
 
 // Four blocks.
-#[derive(Drop)]
+#[derive(Clone, Copy)]
 pub struct Four {
     pub a: Block,
     pub b: Block,
@@ -16,7 +16,7 @@ pub struct Four {
 }
 
 // The halves of a block.
-#[derive(Drop)]
+#[derive(Clone, Copy)]
 pub struct Halves {
     pub first: u64,
     pub second: u64,

@@ -13,7 +13,7 @@ use crate::rotations::{rotate, rotate_either};
 use crate::sbox::sub_gates;
 
 // Eight words: plane i has bit i of every byte. Lane 16r + 4c + b, which is that bit of each word, has row r of column c of block b.
-#[derive(Drop)]
+#[derive(Clone, Copy)]
 pub struct Planes {
     pub p0: u64,
     pub p1: u64,

@@ -65,7 +65,7 @@ pub fn dual_key(
 }
 
 // What H answers to two that are asked together, and the encryptions made for them.
-#[derive(Drop)]
+#[derive(Clone, Copy)]
 pub struct Answers {
     pub x: Block,
     pub y: Block,

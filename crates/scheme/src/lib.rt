@@ -26,7 +26,7 @@ use model::{Truth, Wire};
 pub use rows::open_charged;
 
 // What garbling knows at a charged gate.
-#[derive(Drop)]
+#[derive(Clone, Copy)]
 pub struct Site {
     pub r: Block, // the seed's offset
     pub fresh: Block, // AES under the seed of block g
@@ -38,7 +38,7 @@ pub struct Site {
 
 // A charged gate, garbled: its zero token, its rows in the material's order, and the encryptions made for them. A row that the scheme
 // does not store is block 0.
-#[derive(Drop)]
+#[derive(Clone, Copy)]
 pub struct GarbledGate {
     pub zero: Block,
     pub row0: Block,
@@ -49,7 +49,7 @@ pub struct GarbledGate {
 }
 
 // A charged gate, opened: its token, and the encryptions made for it.
-#[derive(Drop)]
+#[derive(Clone, Copy)]
 pub struct OpenedGate {
     pub token: Block,
     pub calls: usize,

@@ -6,7 +6,7 @@ ghost use Rattle.text.specs.Written.{DigitsAre, Wrote};
 use buffer::copy_to;
 
 // A number's digits, at the end of an array: from the index `first` on.
-#[derive(Drop)]
+#[derive(Clone, Copy)]
 struct Digits {
     bytes: [u8; 20],
     first: usize,

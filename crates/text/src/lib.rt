@@ -13,7 +13,7 @@ pub mod decimal;
 pub mod lines;
 
 // A text: the first `len` bytes of the array. There is room for seven numbers of at most 20 digits, with a byte after each.
-#[derive(Drop)]
+#[derive(Clone, Copy)]
 pub struct Text {
     pub bytes: [u8; 147],
     pub len: usize,

@@ -3,7 +3,7 @@ use mathlib.Core.Logic.{⊎_elim}
 use Prim.Native.Nat.{◌-◌}
 use borrow.Author.Rules.{rules}
 use lib.ListN.{take}
-use Rattle.aes.proofs.Words.{word_read, KeyCopied, key_start, key_turn, Expanding, temp_made, temp_kept, made, expand_start, expand_turn, expand_end}
+use Rattle.aes.proofs.WordLaws.{word_read, KeyCopied, key_start, key_turn, Expanding, temp_made, temp_kept, made, expand_start, expand_turn, expand_end}
 use Rattle.planes.proofs.schedule.expand_key.Statement.{statement}
 use Rattle.planes.proofs.schedule.expand_key.Tie as tie
 

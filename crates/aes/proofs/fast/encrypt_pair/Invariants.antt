@@ -1,0 +1,11 @@
+use Prim.Native.Nat.{◌-◌}
+use Rattle.aes.specs.Tables.{state_of}
+use Rattle.aes.specs.Folded.{columns}
+use Rattle.aes.proofs.Rounds.{Through}
+use Rattle.aes.proofs.fast.encrypt_pair.Given as goal
+
+abbrev pub invariant-loop-r : goal.invariant-loop-r
+invariant-loop-r l = Through l.w (state_of l.initial.s) l.r (state_of l.s) × Through l.w (state_of (columns l.initial.t)) l.r (state_of (columns l.t))
+
+abbrev pub decreases-loop-r : goal.decreases-loop-r
+decreases-loop-r l = 10 - l.r

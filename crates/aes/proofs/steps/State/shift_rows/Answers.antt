@@ -1,0 +1,16 @@
+use mathlib.Core.Path.{refl}
+use Prim.Native.Nat.{◌-◌}
+use native.Mathlib.Omega.{arith}
+use Rattle.model.specs.Aes.{shift_rows}
+use Rattle.block.proofs.Fill.{fill_start, fill_turn, fill_end}
+use Rattle.aes.proofs.steps.State.shift_rows.Goals as goal
+
+pub loop-i-init : goal.loop-i-init
+loop-i-init c = fill_start (omega arith) refl
+
+pub loop-i-preserved : goal.loop-i-preserved
+loop-i-preserved c = fill_turn c.loop-i.invariant refl (omega arith)
+
+pub returns : goal.returns
+unfolding shift_rows
+returns c = fill_end c.loop-i.invariant (omega arith)
