@@ -4,7 +4,6 @@ pub mod SizeLaws
 pub mod FileLaws
 pub mod RowLaws
 pub mod ReaderLaws
-pub mod ReaderWalk
 pub mod RecordLaws
 pub mod LastLaws
 pub mod MaterialLaws

@@ -1,0 +1,27 @@
+use mathlib.Core.Path.{◌∙◌}
+use mathlib.Core.Logic.{⊎_elim}
+use Prim.Native.Nat.{◌-◌}
+use borrow.Author.Rules.{rules}
+use lib.ListN.{take}
+use Rattle.aes.proofs.WordLaws.{word_read, key_start, key_turn, temp_made, temp_kept, made, expand_start, expand_turn, expand_end}
+use Rattle.planes.proofs.schedule.expand_key.Goals as goal
+
+pub loop-i-init : goal.loop-i-init
+loop-i-init c = key_start (search rules)
+
+pub loop-i-preserved : goal.loop-i-preserved
+loop-i-preserved c = key_turn (search rules) c.loop-i.invariant c.put_word-w.ensures (word_read c.args.key.bytes c.loop-i.i) (search rules) (search rules)
+
+pub loop-i-2-init : goal.loop-i-2-init
+loop-i-2-init c = expand_start c.loop-i.invariant (search rules)
+
+pub loop-i-2-preserved : goal.loop-i-2-preserved
+loop-i-2-preserved c = let w = c.loop-i-2.w in let i = c.loop-i-2.i in expand_turn c.loop-i-2.invariant c.put_word-w-in-loop-i-2.ensures
+    (made w i
+    (⊎_elim (λ a. temp_made w i c.word-temp.ensures a.0.taken a.1.ensures a.2.ensures a.3.ensures (a.5 ∙ a.4.ensures))
+    (λ a. temp_kept w i (a.1 ∙ c.word-temp.ensures) a.0.left) c.if-i-eq0.branch)
+    c.word.ensures c.xor_word.ensures)
+    (search rules) (search rules)
+
+pub returns : goal.returns
+returns c = expand_end (search rules) c.loop-i.invariant (search rules) c.loop-i-2.invariant (search rules)
