@@ -4,4 +4,4 @@ use Rattle.planes.proofs.cipher.encrypt_four.Goals as goal
 
 pub returns : goal.returns
 unfolding IsSliced
-returns c = encrypts (c.cipher_from.ensures ws sliced)
+returns c ws sliced = encrypts (c.cipher_from.ensures ws sliced)
