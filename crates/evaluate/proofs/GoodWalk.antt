@@ -1,6 +1,6 @@
 -- The invariant of the walk over a list of gate records, with no word of the program logic: so many turns are left, the walk stands
 -- at w, and the buffer, which was o, is d. Assumes nothing.
-use Prim.Native.Nat.{ℕ, zero, suc, ◌+◌, ◌*◌, ◌≤◌, ◌<◌, ◌^◌}
+use Prim.Native.Nat.{ℕ, zero, suc, ◌+◌, ◌-◌, ◌*◌, ◌≤◌, ◌<◌, ◌^◌}
 use native.Mathlib.Omega.{arith}
 use mathlib.Core.Path.{◌≡◌, refl, sym, ◌∙◌}
 use mathlib.Core.Bool.{Bool, true, false, not}
@@ -41,10 +41,6 @@ by_pass zero h f g k = f refl
 by_pass (suc zero) h f g k = g refl
 by_pass (suc (suc zero)) h f g k = k refl
 by_pass (suc (suc (suc p))) h f g k = absurd (omega arith)
-
--- not in pass j, which is no later than the walk's: in a later one
-pub later : (j p : ℕ) → j ≤ p → eqb p j ≡ false → suc j ≤ p
-later j p h e = let other : p ≡ j → ⊥ = λ i. neither e (eq-eqb p j i) in omega arith
 
 -- ---- what a turn asks, of any circuit
 module _ (c ts s o : List ℕ) (left : ℕ) (w : Walk) (d : List ℕ) (st : Stands c ts s o left w d) where
@@ -104,12 +100,51 @@ module _ (c ts s o : List ℕ) (left : ℕ) (w : Walk) (d : List ℕ) (st : Stan
           start = rw (is_n c w.z known) (step_token (get_or s 2 0) c (inputs c) w.k s w.here.at w.calls d step g is.is_g);
         }
 
--- ---- a walk that goes on has turns left
-turns_left : (c ts s o : List ℕ) (w : Walk) (d : List ℕ) → Stands c ts s o zero w d → w.pass ≤ 2 → ⊥
-turns_left c ts s o w d st go =
-    let h = st.more go in
-    by_pass w.pass go (λ e. (let t = (st.pass_0 e).turns in omega arith)) (λ e. (let t = (st.pass_1 e).turns in omega arith))
-    (λ e. (let t = (st.pass_2 e).turns in omega arith))
+-- ---- the turns that a walk over some records has left: each pass that is left takes a turn a record
+abbrev pub turns_of : List Gate → Walk → ℕ
+turns_of gs w = (3 - w.pass) * length gs - w.k
+
+-- the turns that stand beside a walk are as many or more, while it goes on
+module _ (c ts s o : List ℕ) (gs : List Gate) (all : gates c ≡ length gs) (left : ℕ) (w : Walk) (d : List ℕ) (st : Stands c ts s o left w d) where
+  turns_0 : w.pass ≡ 0 → left ≡ turns_of gs w
+  turns_0 e = rw e (omega (arith, (st.pass_0 e).turns, all))
+
+  turns_1 : w.pass ≡ 1 → turns_of gs w ≤ left
+  turns_1 e = rw e (omega (arith, (st.pass_1 e).turns, all))
+
+  turns_2 : w.pass ≡ 2 → turns_of gs w ≤ left
+  turns_2 e = rw e (omega (arith, (st.pass_2 e).turns, all))
+
+  turns_enough : w.pass ≤ 2 → turns_of gs w ≤ left
+  turns_enough go = by_pass w.pass go (λ e. omega (arith, turns_0 e)) turns_1 turns_2
+
+  -- and no fewer are needed
+  stands_so : Stands c ts s o (turns_of gs w) w d
+  stands_so = record {
+    passes = st.passes;
+    more = st.more;
+    strides = st.strides;
+    pass_0 = λ e. (rw (turns_0 e) at (st.pass_0 e));
+    pass_1 = λ e. (let t = st.pass_1 e in record {
+      known = t.known;
+      tokens = t.tokens;
+      within = t.within;
+      rows = t.rows;
+      untouched = t.untouched;
+      turns = rw e (omega (arith, st.more (omega (arith, e)), all));
+    });
+    pass_2 = λ e. (let t = st.pass_2 e in record {
+      sizes = t.sizes;
+      fit = t.fit;
+      so_far = t.so_far;
+      turns = rw e (omega (arith, st.more (omega (arith, e)), all));
+    });
+    ended = st.ended;
+  }
+
+-- a walk that goes on has turns left
+turns_some : (gs : List Gate) (w : Walk) → w.pass ≤ 2 → w.k < length gs → 1 ≤ turns_of gs w
+turns_some gs w go more = by_pass w.pass go (λ e. rw e (omega arith)) (λ e. rw e (omega arith)) (λ e. rw e (omega arith))
 
 -- ---- the records gs, with n and m
 module _ (n m : ℕ) (gs : List Gate) (ts s o : List ℕ) where
@@ -211,8 +246,21 @@ module _ (n m : ℕ) (gs : List Gate) (ts s o : List ℕ) where
             let go : w.pass ≤ 2 = omega (arith, e) in
             writes (circuit_bytes n m gs) ts s o left w d (good.few (goes_few left w d good go)) (get_or gs w.k no_gate) (gate_is go fits) e
 
-    pub runs_out : (w : Walk) (d : List ℕ) → Good zero w d → w.pass ≤ 2 → ⊥
-    runs_out w d good go = turns_left (circuit_bytes n m gs) ts s o w d (good.few (goes_few zero w d good go)) go
+    -- the turns left of a walk that goes on, and of any
+    module _ (left : ℕ) (w : Walk) (d : List ℕ) (good : Good left w d) where
+      left_enough : w.pass ≤ 2 → turns_of gs w ≤ left
+      left_enough go = let h = goes_few left w d good go in turns_enough (circuit_bytes n m gs) ts s o gs (q_made h) left w d (good.few h) go
+
+      left_some : w.pass ≤ 2 → 1 ≤ turns_of gs w
+      left_some go = turns_some gs w go (within left w d good go)
+
+      pub good_so : Good (turns_of gs w) w d
+      good_so = record {
+        long = good.long;
+        few = λ h. stands_so (circuit_bytes n m gs) ts s o gs (q_made h) left w d (good.few h);
+        many = good.many;
+        many_left = good.many_left;
+      }
 
     -- what a turn of each pass leaves
     module _ (left : ℕ) (w : Walk) (d : List ℕ) (good : Good (suc left) w d) (fits : GateFits (get_or gs w.k no_gate)) (r : Walk) (d' : List ℕ)
@@ -238,6 +286,44 @@ module _ (n m : ℕ) (gs : List Gate) (ts s o : List ℕ) where
           let go : w.pass ≤ 2 = omega (arith, e) in
           next go (λ h. leads.leads (circuit_bytes n m gs) ts o left ((good.few h).more go) (gate_is (suc left) w d good go fits) ((good.few h).pass_2 e))
 
+    -- a turn leaves a walk that has fewer turns left
+    module _ (w : Walk) (d : List ℕ) (good : Good (turns_of gs w) w d) (go : w.pass ≤ 2) (r : Walk) (d' : List ℕ) (next : Good (turns_of gs w - 1) r d') where
+      pub turns_fewer : turns_of gs r < turns_of gs w
+      turns_fewer = by (ltb r.pass 3) refl
+        where
+          by : (b : Bool) → ltb r.pass 3 ≡ b → turns_of gs r < turns_of gs w
+          by true e = omega (arith, left_enough (turns_of gs w - 1) r d' next (omega (arith, ltb-true _ _ e)), left_some (turns_of gs w) w d good go)
+          by false e =
+              let over : r.pass ≡ 3 = omega (arith, passes (turns_of gs w - 1) r d' next, ltb-false _ _ e) in
+              let none : turns_of gs r ≡ 0 = rw over (omega arith) in
+              omega (arith, none, left_some (turns_of gs w) w d good go)
+
+    -- a turn at record g, the walk's, which fits
+    module _ (w : Walk) (d : List ℕ) (good : Good (turns_of gs w) w d) (g : Gate) (is : g ≡ get_or gs w.k no_gate) (fit : (g.a.0 ≤ 65535) × (g.b.0 ≤ 65535)) where
+      fits : GateFits (get_or gs w.k no_gate)
+      fits = let own : GateFits g = record { a_fits = fit.0; b_fits = fit.1 } in rw is at own
+
+      counted_turn : w.pass ≤ 2 → Good (suc (turns_of gs w - 1)) w d
+      counted_turn go =
+          let one : suc (turns_of gs w - 1) ≡ turns_of gs w = omega (arith, left_some (turns_of gs w) w d good go) in
+          rw one good
+
+      pub tests_1 : w.pass ≡ 1 → Checks ts s w.k w.z w.stride (w.here.at + charge (kind_of g.code) * w.stride)
+      tests_1 e = rw is (asks_1 (turns_of gs w) w d good fits e)
+
+      pub tests_2 : w.pass ≡ 2 → (t k : List ℕ) → Lent t k → Writes t k s d w g
+      tests_2 e t k lent = rw is (asks_2 (turns_of gs w) w d good fits e t k lent)
+
+      module _ (r : Walk) (d' : List ℕ) (same : length d' ≡ length d) where
+        pub turn_0 : w.pass ≡ 0 → d' ≡ d → TryLeads ts s w g r → Good (turns_of gs w - 1) r d'
+        turn_0 e u leads = nexts_0 (turns_of gs w - 1) w d (counted_turn (omega (arith, e))) fits r d' same e u (rw is at leads)
+
+        pub turn_1 : w.pass ≡ 1 → CheckLeads ts s w g d r d' → Good (turns_of gs w - 1) r d'
+        turn_1 e leads = nexts_1 (turns_of gs w - 1) w d (counted_turn (omega (arith, e))) fits r d' same e (rw is at leads)
+
+        pub turn_2 : w.pass ≡ 2 → WriteLeads s w g d r d' → Good (turns_of gs w - 1) r d'
+        turn_2 e leads = nexts_2 (turns_of gs w - 1) w d (counted_turn (omega (arith, e))) fits r d' same e (rw is at leads)
+
     pub ends : (left : ℕ) (w : Walk) (d : List ℕ) → Good left w d → w.pass ≡ 3 → EvaluateGatesIs n m gs ts s o (evaluated_of w.answer) d
     ends left w d good stop = count fewer more
       where
@@ -254,8 +340,5 @@ module _ (n m : ℕ) (gs : List Gate) (ts s o : List ℕ) where
             record { answered = rw (v, (good.many h).answered); left = rw v (good.many_left h) }
 
     -- past the last pass
-    pub over : (left : ℕ) (w : Walk) (d : List ℕ) → Good left w d → 2 ≤ w.pass → eqb w.pass 2 ≡ false → EvaluateGatesIs n m gs ts s o (evaluated_of w.answer) d
-    over left w d good h e =
-        let l = later 2 w.pass h e in
-        let u = passes left w d good in
-        ends left w d good (omega arith)
+    pub over : (left : ℕ) (w : Walk) (d : List ℕ) → Good left w d → 2 ≤ w.pass → (w.pass ≡ 2 → ⊥) → EvaluateGatesIs n m gs ts s o (evaluated_of w.answer) d
+    over left w d good h e = ends left w d good (omega (arith, passes left w d good, e))

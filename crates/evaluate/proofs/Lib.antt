@@ -8,5 +8,3 @@ pub mod DecodeLaws
 pub mod OutputLaws
 pub mod GateListLaws
 pub mod GoodWalk
-pub mod Again
-pub mod LentArray

