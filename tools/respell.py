@@ -19,6 +19,8 @@ NO_NAMES = set("module let elim in infixr infixl infix unfolding with where mod 
 OWN = re.compile(r"(?:pub )?use (Rattle\.\w+)\.[^;{]*?\.\{([^}]*)\}")
 FOREIGN = re.compile(r"use ((?!Rattle\.(?:%s)\.)[\w.]+)\.\{([^}]*)\}")
 BY_HAND = {"getD-wide": "get_or_wide", "Walks-over": "WalksOver", "Sets-out": "SetsOut", "P12": "p12", "P13": "p13", "P14": "p14"}
+# Fields of definitions that would fall together with a definition.
+BY_HAND |= {"last-wires": "by_last_wires", "is-charged": "is_charged_kind", "same-sizes": "same_sizes_kept", "output-tokens": "output_tokens_kept"}
 # Laws that the kit's script gave the name of a definition, each in the files that it is for.
 IN_FILES = {
     "model/proofs/AesBytes.antt": {"sub_word": "sub_word_law"},

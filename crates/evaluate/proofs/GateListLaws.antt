@@ -293,7 +293,7 @@ unfolding circuit_verdict outputs_verdict ◌then◌ sizes_of circuit_of
 all_tried c s o d left k z at t h =
     let e : k ≡ gates c = omega (arith, t.within, t.is_q) in
     record {
-      accepted = rw (t.head, t.last_wires_law) (ap (λ (v : Verdict). v then fine) (rw e at t.no_fault));
+      accepted = rw (t.head, t.by_last_wires) (ap (λ (v : Verdict). v then fine) (rw e at t.no_fault));
       sizes = sizes_are z _ _ _ _ t.is_n t.is_m t.is_q (rw e at t.counted);
     }
 
@@ -419,7 +419,7 @@ module _ (ts s : List ℕ) (w : Walk) (g : Gate) (found : GateRead) (is_found : 
         next.leads c o d left t.guessed
         (record {
           head = t.head;
-          last_wires_law = t.last_wires_law;
+          by_last_wires = t.by_last_wires;
           is_n = t.is_n;
           is_m = t.is_m;
           is_q = t.is_q;

@@ -188,7 +188,7 @@ module _ (n m : ℕ) (gs : List Gate) (ts s o : List ℕ) where
         goes_0 (circuit_bytes n m gs) ts s o (3 * length gs) w o 0 _ _ _ refl held.q_low g
         (record {
           head = head;
-          last_wires_law = not_named n m gs;
+          by_last_wires = not_named n m gs;
           is_n = sym (inputs_made n m gs n_low m_low h);
           is_m = sym (outputs_made n m gs n_low m_low h);
           is_q = sym (q_made h);

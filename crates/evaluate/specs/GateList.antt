@@ -63,7 +63,7 @@ pub record Guessed (c s : List ℕ) (k at : ℕ) : Type 0 where
 -- due, or 0, and no further than k row records of four rows reach
 pub record Tried (c s o : List ℕ) (left k : ℕ) (z : Sizes) (at : ℕ) (d : List ℕ) : Type 0 where
   pub head : head_verdict c ≡ fine
-  pub last_wires_law : named c ≡ false
+  pub by_last_wires : named c ≡ false
   pub is_n : z.n ≡ inputs c
   pub is_m : z.m ≡ outputs c
   pub is_q : z.q ≡ gates c

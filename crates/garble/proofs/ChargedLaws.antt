@@ -71,10 +71,10 @@ abbrev Made : ℕ → Model.Site → GarbledGate → Type 0
 Made k s made = GarbledIs (scheme_of k) (garbled_calls k s) s made
 
 -- what was garbled with the block that scheme 1 asks for is garbled as the site says
-module _ (p : Plan) (f : Block) (g : GateIn) (made : GarbledGate) (u v x : ℕ) (is_charged_law : kind_of g.code ≡ charged u v x)
+module _ (p : Plan) (f : Block) (g : GateIn) (made : GarbledGate) (u v x : ℕ) (is_charged_kind : kind_of g.code ≡ charged u v x)
     (fresh : FreshIs p.seed.bytes p.wanted g.code g.own.0 f) (is : Made p.wanted.scheme (refreshed f (site_at p g)) made) where
   one_charge : charge (kind_of g.code) ≡ 1
-  one_charge = rw is_charged_law
+  one_charge = rw is_charged_kind
 
   of_gax : p.wanted.scheme ≡ 1 → Made p.wanted.scheme (site_at p g) made
   unfolding refreshed site_at

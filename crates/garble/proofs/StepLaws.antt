@@ -111,7 +111,7 @@ module _ (c seed : List ℕ) (want : Wanted) (plan : Plan) (walk : WalkOf c seed
           step_charged_start = record {
             known = walk.known;
             is_stored = walk.plan_is.is_stored;
-            is_charged_law = ap kind_of is_g.is_code ∙ charged_is;
+            is_charged_kind = ap kind_of is_g.is_code ∙ charged_is;
             record_room = room;
             slot_room = step_slot;
           }

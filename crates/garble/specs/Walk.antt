@@ -65,7 +65,7 @@ site_at p g = record {
 pub record ChargedStart (scheme stored code u v x : ℕ) (m : List ℕ) (at : ℕ) (z : List ℕ) (slot : ℕ) : Type 0 where
   pub known : Known scheme
   pub is_stored : stored ≡ (scheme_of scheme).stored
-  pub is_charged_law : kind_of code ≡ charged u v x
+  pub is_charged_kind : kind_of code ≡ charged u v x
   pub record_room : at + record_length (scheme_of scheme) ≤ length m
   pub slot_room : slot + 16 ≤ length z
 

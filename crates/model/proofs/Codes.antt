@@ -104,7 +104,7 @@ in_table ks code known = go (dec_lt code (length ks))
 -- ---- charged codes by their α, β and γ
 
 pub data Charged : Kind → Type 0 where
-  is_charged_law : {u v x : ℕ} → Charged (charged u v x)
+  is_charged_kind : {u v x : ℕ} → Charged (charged u v x)
 
 -- w is u and d is 1, or w is the other value and d is 0
 data Compared (u : ℕ) : ℕ → ℕ → Type 0 where
@@ -139,7 +139,7 @@ pub record Negated (f : ℕ → ℕ → ℕ) (k : Kind) : Type 0 where
   pub at : (u v : ℕ) → Bit u → Bit v → f u v ≡ differ (gamma k) (differ (alpha k) u * differ (beta k) v)
 
 negated : (f : ℕ → ℕ → ℕ) (k : Kind) → Means f k → Charged k → Negated f k
-negated f _ m is_charged_law = record {
+negated f _ m is_charged_kind = record {
   bit_α = bit_other m.bit_u;
   bit_β = bit_other m.bit_v;
   bit_γ = bit_other m.bit_x;

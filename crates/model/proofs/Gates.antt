@@ -14,7 +14,7 @@ use Rattle.model.specs.Evaluation.{open_at, past}
 use Rattle.model.proofs.Bits.{Bit}
 use Rattle.model.proofs.Xor.{⊕_length}
 use Rattle.model.proofs.Tokens.{Offset, token_for, block_length}
-use Rattle.model.proofs.Codes.{Means, code_means, free_table_at, Used, used_charged, used_free, Charged, is_charged_law}
+use Rattle.model.proofs.Codes.{Means, code_means, free_table_at, Used, used_charged, used_free, Charged, is_charged_kind}
 use Rattle.model.proofs.Blocks.{join_length, cut_join_append}
 use Rattle.model.proofs.FreeGates.{free_gate_evaluates}
 use Rattle.model.proofs.Sound.{Sound}
@@ -58,7 +58,7 @@ module _ (γ : Garbling) where
       → open_at S k s.g (record_of γ k s ++ rest) (token_for s.R s.Xa u) (token_for s.R s.Xb v)
       ≡ token_for s.R (zero_at γ k s) (f u v)
   unfolding open_at record_of zero_at
-  kind_evaluates _ s f rest u v m used_charged p q h = rw (cut_join_append (sound.rows_wide s) rest, open_at) (h is_charged_law)
+  kind_evaluates _ s f rest u v m used_charged p q h = rw (cut_join_append (sound.rows_wide s) rest, open_at) (h is_charged_kind)
   kind_evaluates _ s f rest u v m used_free p q h =
       rw (free_table_at m p q) (free_gate_evaluates s.R s.Xa s.Xb m.bit_p m.bit_q m.bit_c p q)
 

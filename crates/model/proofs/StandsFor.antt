@@ -286,11 +286,11 @@ module _ (s : List ℕ) (accepted : circuit_verdict s ≡ fine) (mark : named s 
         by_name = by_name;
         accepted = still_accepted;
         same_circuit = circuit_same;
-        same_sizes_law = sizes_same;
+        same_sizes_kept = sizes_same;
         plain = λ v o r x. (plain_too s t alike v o r x, plain_too t s back v o r x);
         garble = λ seed want m z o r m' z' o'. (garble_too s t alike seed want m z o r m' z' o', garble_too t s back seed want m z o r m' z' o');
         encode = λ v zs os o r x. (encode_too s t alike v zs os o r x, encode_too t s back v zs os o r x);
         evaluate = λ ts f o r x. (evaluate_too s t alike ts f o r x, evaluate_too t s back ts f o r x);
-        output_tokens_law = λ ws o r x. (output_tokens_too s t alike ws o r x, output_tokens_too t s back ws o r x);
+        output_tokens_kept = λ ws o r x. (output_tokens_too s t alike ws o r x, output_tokens_too t s back ws o r x);
         decode = λ ts f o r x. (decode_too s t alike ts f o r x, decode_too t s back ts f o r x);
       }

@@ -286,13 +286,13 @@ pub record StandsFor (s : List ℕ) : Type 0 where
   pub by_name : named (named_of s) ≡ true
   pub accepted : circuit_verdict (named_of s) ≡ fine
   pub same_circuit : circuit_of (named_of s) ≡ circuit_of s
-  pub same_sizes_law : sizes_of (named_of s) ≡ sizes_of s
+  pub same_sizes_kept : sizes_of (named_of s) ≡ sizes_of s
   pub plain : (v o : List ℕ) (r : Verdict) (x : List ℕ) → PlainIs s v o r x ↔ PlainIs (named_of s) v o r x
   pub garble : (seed : List ℕ) (want : Wanted) (m z o : List ℕ) (r : Answer Made) (m' z' o' : List ℕ)
       → GarbleIs s seed want m z o r m' z' o' ↔ GarbleIs (named_of s) seed want m z o r m' z' o'
   pub encode : (v zs os o : List ℕ) (r : Verdict) (x : List ℕ) → EncodeIs s v zs os o r x ↔ EncodeIs (named_of s) v zs os o r x
   pub evaluate : (ts f o : List ℕ) (r : Answer ℕ) (x : List ℕ) → EvaluateIs s ts f o r x ↔ EvaluateIs (named_of s) ts f o r x
-  pub output_tokens_law : (ws o : List ℕ) (r : Verdict) (x : List ℕ) → OutputTokensIs s ws o r x ↔ OutputTokensIs (named_of s) ws o r x
+  pub output_tokens_kept : (ws o : List ℕ) (r : Verdict) (x : List ℕ) → OutputTokensIs s ws o r x ↔ OutputTokensIs (named_of s) ws o r x
   pub decode : (ts f o : List ℕ) (r : Verdict) (x : List ℕ) → DecodeIs s ts f o r x ↔ DecodeIs (named_of s) ts f o r x
 
 -- ==== Job 12, decoding that knows its tokens
