@@ -91,7 +91,7 @@ pub extern "C" fn weighhare_evaluate(
     evaluated(answer, e)
 }
 
-// The same over a list of gate records. Proved by hand, since it holds a slice of structs: so it only hands on.
+// The same over a list of gate records.
 #[unsafe(no_mangle)]
 pub extern "C" fn weighhare_evaluate_gates(
     n: u16,
