@@ -18,6 +18,8 @@ DECLARED = re.compile(f"^(\\s*)((?:pub |abbrev |unfoldable )*)(?:(record|data|ru
 NO_NAMES = set("module let elim in infixr infixl infix unfolding with where mod do case of rw search use pub".split())
 OWN = re.compile(r"(?:pub )?use (Rattle\.\w+)\.[^;{]*?\.\{([^}]*)\}")
 FOREIGN = re.compile(r"use ((?!Rattle\.(?:%s)\.)[\w.]+)\.\{([^}]*)\}")
+# Words of the papers and of plain English, which stay in comments.
+PLAIN = set("all-zero big-endian exclusive-ored half-gate half-gates i-Nk look-ups re-keyed well-formed".split())
 BY_HAND = {"getD-wide": "get_or_wide", "Walks-over": "WalksOver", "Sets-out": "SetsOut", "P12": "p12", "P13": "p13", "P14": "p14"}
 # Fields of definitions that would fall together with a definition.
 BY_HAND |= {"last-wires": "by_last_wires", "is-charged": "is_charged_kind", "same-sizes": "same_sizes_kept", "output-tokens": "output_tokens_kept"}
@@ -53,7 +55,7 @@ def snake(name):
     name = name.replace("-", "_")
     if re.match(r"[A-Z]\d+_|[A-Z]_", name):
         name = name[0].lower() + name[1:]
-    return re.sub(r"([a-z0-9])([A-Z])", lambda m: m[1] + "_" + m[2].lower(), name)
+    return re.sub(r"(?<=[A-Za-z0-9])([A-Z])", lambda m: "_" + m[1].lower(), name) if name[0].islower() else name
 
 
 def declared(text):
@@ -109,11 +111,24 @@ def main():
                         names[w] = snake(w)
 
         def turned(m):
-            before = t[max(0, m.start() - 4) : m.start()]
+            before = m.string[max(0, m.start() - 4) : m.start()]
             return m[0] if before == "tie." else names.get(m[0], m[0])
 
+        def in_comment(m):
+            return m[0] if m[0] in PLAIN or m[0] not in new_names else names.get(m[0], m[0])
+
         code = re.compile(r'"(?:[^"\\\n]|\\.)*"|' + WORD.pattern)
-        t2 = code.sub(lambda m: m[0] if m[0].startswith('"') else turned(m), t) if p.endswith(".rt") else WORD.sub(turned, t)
+        mark = re.compile("//" if p.endswith(".rt") else r"(?:^|(?<=\s))--(?=\s)")
+        lines = []
+        for line in t.split("\n"):
+            m = mark.search(line)
+            head, tail = (line[: m.start()], line[m.start() :]) if m else (line, "")
+            if p.endswith(".rt"):
+                head = code.sub(lambda m: m[0] if m[0].startswith('"') else turned(m), head)
+            else:
+                head = WORD.sub(turned, head)
+            lines.append(head + re.sub(f"[^`{APART}]+", in_comment, tail))
+        t2 = "\n".join(lines)
         if t2 != read(p):
             with open(p, "w", encoding="utf-8") as f:
                 f.write(t2)

@@ -1,5 +1,5 @@
 -- What pick hands back: the part's bytes, and where it lies. Document 01, "Operations": "a part of the one list or the other".
--- A lent list is a reference: `now` are its bytes, and `ptr` is its place, a block of memory and an offset in it.
+-- A lent list is a reference: `now` are its bytes, and `ref_ptr` is its place, a block of memory and an offset in it.
 use Rattle.std.specs.Prelude.{ℕ, ◌+◌, ◌*◌, ◌-◌, ◌≡◌, List, cond, eqb}
 use Rattle.std.specs.Borrow.{Bor}
 use Rattle.model.specs.Refusals.{fine, pick_verdict}

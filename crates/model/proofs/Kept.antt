@@ -23,7 +23,7 @@ use Rattle.model.specs.Garbling.{scheme_of, site_of, zero_at, zero_step, zero_to
 use Rattle.model.specs.Material.{zero_of, record_of, records, material}
 use Rattle.model.specs.Evaluation.{open_at, open_step, past, open_gates, evaluate}
 use Rattle.model.specs.Refusals.{fine, is_refused, ◌then◌, gate_verdict, record_verdict, outputs_verdict, circuit_verdict, circuit_sizes, scheme_verdict, row_start, row_verdict, material_verdict}
-use Rattle.model.specs.Kept.{LeftRefused, ZeroPassedOn, TokenPassedOn, PassedOn, kinds01, kind01, kind_value, head_verdict01, charges_by, gate_value_by, gate_verdict_by, record_verdict_by, circuit_verdict_by, row_verdict_by, material_verdict_by, offset_by, input_zeros_by, input_ones_by, site_by, half_aBy, half_bBy, row_gBy, row_eBy, half_by, scheme_by, zero_at_by, zero_step_by, zero_tokens_by, record_of_by, records_by, header_by, last_record_by, material_by, open_step_by, open_gates_by, evaluate_by, SameBytes, seed_block01, RunZero, hash01, scheme01, scheme_verdict01, OldSchemes, material_verdict01, OldEnding}
+use Rattle.model.specs.Kept.{LeftRefused, ZeroPassedOn, TokenPassedOn, PassedOn, kinds01, kind01, kind_value, head_verdict01, charges_by, gate_value_by, gate_verdict_by, record_verdict_by, circuit_verdict_by, row_verdict_by, material_verdict_by, offset_by, input_zeros_by, input_ones_by, site_by, half_a_by, half_b_by, row_g_by, row_e_by, half_by, scheme_by, zero_at_by, zero_step_by, zero_tokens_by, record_of_by, records_by, header_by, last_record_by, material_by, open_step_by, open_gates_by, evaluate_by, SameBytes, seed_block01, RunZero, hash01, scheme01, scheme_verdict01, OldSchemes, material_verdict01, OldEnding}
 use Rattle.model.proofs.OldEnding.{colours_material, no_clash, verdict_same, made_same, file_same, last_same, known_all, bits_same}
 use Rattle.model.proofs.Bits.{Bit, b0, b1, bit_of, bit_small}
 use Rattle.model.proofs.Codes.{value_bit, past_table, in_table}
@@ -217,21 +217,21 @@ by_scheme K f k e = go (eqb k 1) (eqb k 2)
 
 -- where a table has a site's code as today's has it
 module _ (K : ℕ → Kind) (s : Site) (same : K s.code ≡ kind_of s.code) where
-  a_same : half_aBy K s ≡ half_a s
-  unfolding half_aBy half_a
+  a_same : half_a_by K s ≡ half_a s
+  unfolding half_a_by half_a
   a_same = rw same
 
-  b_same : half_bBy K s ≡ half_b s
-  unfolding half_bBy half_b
+  b_same : half_b_by K s ≡ half_b s
+  unfolding half_b_by half_b
   b_same = rw same
 
   module _ (H : Block → ℕ → Block) where
-    g_same : row_gBy K H s ≡ row_g H s
-    unfolding row_gBy row_g
+    g_same : row_g_by K H s ≡ row_g H s
+    unfolding row_g_by row_g
     g_same = rw (a_same, b_same)
 
-    e_same : row_eBy K H s ≡ row_e H s
-    unfolding row_eBy row_e
+    e_same : row_e_by K H s ≡ row_e H s
+    unfolding row_e_by row_e
     e_same = rw (a_same, b_same)
 
     half_zero_same : (half_by K H).zero_token s ≡ (half H).zero_token s

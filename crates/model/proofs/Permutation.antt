@@ -28,8 +28,8 @@ un_bits : ℕ → ℕ → ℕ
 un_bits zero y = 0
 un_bits (suc n) y = un_bit y n * 2 ^ n + un_bits n y
 
-un_sBox : ℕ → ℕ
-un_sBox y = inverse (un_bits 8 y)
+un_s_box : ℕ → ℕ
+un_s_box y = inverse (un_bits 8 y)
 
 bytes : List ℕ
 bytes = tabulate 256 (λ i. i)
@@ -45,14 +45,14 @@ affine_undone : (x : ℕ) → x < 256 → un_bits 8 (affine_bits 8 x) ≡ x
 unfolding straight bytes
 affine_undone x h = eqb→eq (un_bits 8 (affine_bits 8 x)) x (at straight bytes all_straight x h)
 
-s_box_undone : (a : ℕ) → a < 256 → un_sBox (s_box a) ≡ a
-unfolding un_sBox s_box
+s_box_undone : (a : ℕ) → a < 256 → un_s_box (s_box a) ≡ a
+unfolding un_s_box s_box
 s_box_undone a h = ap inverse (affine_undone (inverse a) (inverse_byte a h)) ∙ inverse_twice a h
 
-sub_undone : {s : Block} → Bytes s → length s ≡ 16 → tabulate 16 (λ i. un_sBox (get_or (sub_bytes s) i 0)) ≡ s
+sub_undone : {s : Block} → Bytes s → length s ≡ 16 → tabulate 16 (λ i. un_s_box (get_or (sub_bytes s) i 0)) ≡ s
 unfolding sub_bytes
 sub_undone {s} r l =
-    from_cong 0 16 _ (λ i. get_or s i 0) (λ i h. ap un_sBox (entry 0 16 (λ k. s_box (get_or s k 0)) i (omega arith)) ∙ s_box_undone (get_or s i 0) (byte_at r i))
+    from_cong 0 16 _ (λ i. get_or s i 0) (λ i h. ap un_s_box (entry 0 16 (λ k. s_box (get_or s k 0)) i (omega arith)) ∙ s_box_undone (get_or s i 0) (byte_at r i))
     ∙ elements 16 s l
 
 -- the rows, turned on to where they were
@@ -129,7 +129,7 @@ shift_apart : {s t : Block} → length s ≡ 16 → length t ≡ 16 → shift_ro
 shift_apart {s} {t} l k = apart shift_rows un_shift (shift_undone s l) (shift_undone t k)
 
 sub_apart : {s t : Block} → Bytes s → Bytes t → length s ≡ 16 → length t ≡ 16 → sub_bytes s ≡ sub_bytes t → s ≡ t
-sub_apart p q l k = apart sub_bytes (λ y. tabulate 16 (λ i. un_sBox (get_or y i 0))) (sub_undone p l) (sub_undone q k)
+sub_apart p q l k = apart sub_bytes (λ y. tabulate 16 (λ i. un_s_box (get_or y i 0))) (sub_undone p l) (sub_undone q k)
 
 mix_apart : {s t : Block} → Bytes s → Bytes t → length s ≡ 16 → length t ≡ 16 → mix_columns s ≡ mix_columns t → s ≡ t
 mix_apart p q l k = apart mix_columns un_mix_columns (columns_undone p l) (columns_undone q k)

@@ -140,24 +140,24 @@ module _ (K : ℕ → Kind) where
       then last_verdict s (last_start (get_or s 2 0) (charges_by c.gates)) (length c.outputs)
 
   -- HalfGates: α, β and γ
-  unfoldable pub half_aBy : Site → Block
-  half_aBy s = s.Xa ⊕ times (alpha (K s.code)) s.R
+  unfoldable pub half_a_by : Site → Block
+  half_a_by s = s.Xa ⊕ times (alpha (K s.code)) s.R
 
-  unfoldable pub half_bBy : Site → Block
-  half_bBy s = s.Xb ⊕ times (beta (K s.code)) s.R
+  unfoldable pub half_b_by : Site → Block
+  half_b_by s = s.Xb ⊕ times (beta (K s.code)) s.R
 
   module _ (H : Block → ℕ → Block) where
-    unfoldable pub row_gBy : Site → Block
-    row_gBy s = H (half_aBy s) (generator_tweak s.g) ⊕ H (half_aBy s ⊕ s.R) (generator_tweak s.g) ⊕ times (colour (half_bBy s)) s.R
+    unfoldable pub row_g_by : Site → Block
+    row_g_by s = H (half_a_by s) (generator_tweak s.g) ⊕ H (half_a_by s ⊕ s.R) (generator_tweak s.g) ⊕ times (colour (half_b_by s)) s.R
 
-    unfoldable pub row_eBy : Site → Block
-    row_eBy s = H (half_bBy s) (evaluator_tweak s.g) ⊕ H (half_bBy s ⊕ s.R) (evaluator_tweak s.g) ⊕ half_aBy s
+    unfoldable pub row_e_by : Site → Block
+    row_e_by s = H (half_b_by s) (evaluator_tweak s.g) ⊕ H (half_b_by s ⊕ s.R) (evaluator_tweak s.g) ⊕ half_a_by s
 
     unfoldable pub half_by : Scheme
     half_by = record {
       stored = 2;
-      zero_token = λ s. joined H s.g (row_gBy s) (row_eBy s) (half_aBy s) (half_bBy s) ⊕ times (gamma (K s.code)) s.R;
-      rows = λ s. row_gBy s ∷ row_eBy s ∷ [];
+      zero_token = λ s. joined H s.g (row_g_by s) (row_e_by s) (half_a_by s) (half_b_by s) ⊕ times (gamma (K s.code)) s.R;
+      rows = λ s. row_g_by s ∷ row_e_by s ∷ [];
       opened = λ g rows. joined H g (get_or rows 0 (block 0)) (get_or rows 1 (block 0));
     }
 

@@ -1,4 +1,4 @@
--- Document 02, job 4: what garblings from one seed have in common. The theorem is `runs-apart` of proofs/Runs.antt.
+-- Document 02, job 4: what garblings from one seed have in common. The theorem is `runs_apart` of proofs/Runs.antt.
 use Rattle.std.specs.Prelude.{ℕ, ◌^◌, ◌<◌, ◌≡◌, get_or}
 use Rattle.model.specs.Tokens.{Garbling, seed_block}
 
