@@ -183,6 +183,11 @@ no_proof() {
     echo "fn $name::$1: $3"
     echo "help: write ./proofs/$1/Answers.antt with these lines, and check again: \`goal\`"
 }
+gave_up() {
+    echo "note: src/lib.rt:2:1: it is not proved that what the function ensures holds when it returns (\`$2\`); \`search\`" \
+        "gave up at one of its limits"
+    echo "fn $name::$1: not proved"
+}
 mismatch() {
     echo "src/lib.rt:3:5: error[mismatched-types]: expected \`$1\`, found \`$2\`"
 }
@@ -516,7 +521,8 @@ fn not_refused_beside_others() {
     ends(&place.run(&["block"]), 2, 3, due);
 }
 
-/// An error that follows from another, or that says that a name is missing, is no fact that does not hold.
+/// An error that follows from another, or that says that a name is missing, is no fact that does not hold. Nor is it one that the
+/// prover gave up at a limit of its own.
 #[test]
 fn refused_elsewhere() {
     let place = Place::new("elsewhere");
@@ -531,6 +537,7 @@ fn refused_elsewhere() {
             "echo './proofs/Laws.antt:1:1: error: doubled_law'",
             "",
         ),
+        ("limit", "gave_up doubled law", ""),
     ];
     let mut due = vec![proved("block")];
     for (label, does, facts) in cases {
@@ -545,7 +552,7 @@ fn refused_elsewhere() {
     due.push(elsewhere("block/nowhere", "", DOUBLED[2]));
     place.wrong("count", COUNT);
     due.push(refused("block/count", COUNT));
-    ends(&place.run(&["block"]), 2, 6, due);
+    ends(&place.run(&["block"]), 2, 7, due);
 }
 
 /// The proof of a caller may say no more than that it waits for another. An edit of the caller is not refused by that.
