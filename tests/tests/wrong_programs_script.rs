@@ -508,6 +508,12 @@ fn not_refused_beside_others() {
             "fact proofs/Block/doubled/Answers.antt returns-2",
             "proofs/Block/doubled/Answers.antt returns-2,",
         ),
+        (
+            "callee",
+            COUNT,
+            "no_proof count '' 'no proof: expected answers in x; `search` did not prove `cast`; it calls `returns`'",
+            "proofs/count/Answers.antt cast,",
+        ),
         ("zero", ZERO, ":", ""),
     ];
     let mut due = vec![proved("block"), refused("block/load", LOAD)];
@@ -518,7 +524,7 @@ fn not_refused_beside_others() {
         due.push(elsewhere(&format!("block/{label}"), spot[2], &facts));
     }
     place.wrong("load", LOAD);
-    ends(&place.run(&["block"]), 2, 3, due);
+    ends(&place.run(&["block"]), 2, 4, due);
 }
 
 /// An error that follows from another, or that says that a name is missing, is no fact that does not hold. Nor is it one that the
