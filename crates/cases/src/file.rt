@@ -1,7 +1,9 @@
 // A file of cases, and the line that is printed of it: its name, and how many of its cases agree.
-ghost use Rattle.std.specs.Prelude.{◌≤◌, length};
+ghost use Rattle.std.specs.Prelude.{◌≡◌, ◌≤◌, IfOk, length};
 
-use libc::STDOUT_FILENO;
+use std::fs::Files;
+use std::io::{ErrorKind, Print, Read};
+use std::{fs, io, str};
 
 // How many cases there were, and how many agreed.
 #[derive(Clone, Copy)]
@@ -17,26 +19,43 @@ pub fn one_if(agrees: bool) -> usize
     if agrees { 1 } else { 0 }
 }
 
-// Prints a file's name and reads its bytes; answers how many there are, 0 where it cannot be opened.
-pub fn read_file(path: &[u8], text: &mut [u8]) -> usize
-    ensures { result ≤ length text.new }
+// Reads until a buffer is full or there is no more; answers how many bytes there were.
+fn read_full<R: Read>(from: &mut R, buffer: &mut [u8]) -> io::Result<usize>
+    ensures { IfOk result (λ len. len ≤ length buffer.new) }
 {
-    io::write_all(STDOUT_FILENO, path);
-    let file = os::open_read(path);
-    if file < 0 {
-        os::fail(path);
-        return 0;
+    let mut len: usize = 0;
+    while len < buffer.len() {
+        let more = from.read(&mut buffer[len..])?;
+        if more == 0 {
+            break;
+        }
+        len += more;
     }
-    let len = io::read_full(file, text);
-    libc::close(file);
-    len
+    Ok(len)
+}
+
+// The name of a file, from its bytes.
+fn name_of(path: &[u8]) -> io::Result<&str> {
+    match str::from_utf8(path) {
+        Ok(name) => Ok(name),
+        Err(_) => Err(io::Error::from(ErrorKind::InvalidInput)),
+    }
+}
+
+// Prints a file's name and reads its bytes; answers how many there are. Where that fails the buffer has its length, and may hold some
+// of them.
+pub fn read_file<R: Files + Print>(rt: &R, path: &[u8], text: &mut [u8]) -> io::Result<usize>
+    ensures read { IfOk result (λ len. len ≤ length text.new) }
+    ensures same_length { length text.new ≡ length text.old }
+{
+    rt.write_all(path)?;
+    let mut file = fs::open(rt, name_of(path)?)?;
+    read_full(&mut file, text)
 }
 
 // ": N of M agree", and the end of the line.
-pub fn print_tally(t: Tally) {
-    io::write_all(STDOUT_FILENO, b": ");
-    io::print_decimal(STDOUT_FILENO, t.agreed as u64);
-    io::write_all(STDOUT_FILENO, b" of ");
-    io::print_decimal(STDOUT_FILENO, t.cases as u64);
-    io::write_all(STDOUT_FILENO, b" agree\n");
+pub fn print_tally(rt: &impl Print, t: Tally) -> io::Result<()> {
+    let agreed = t.agreed;
+    let cases = t.cases;
+    println!(rt; ": {agreed} of {cases} agree")
 }

@@ -5,6 +5,9 @@
 use crate::text::run;
 use cases::file::{print_tally, read_file};
 use cases::room;
+use std::fs::Files;
+use std::io;
+use std::io::Print;
 
 mod fingerprint;
 mod garbler;
@@ -13,34 +16,34 @@ mod rule;
 mod text;
 
 // The cases of one file, each of them large or none.
-fn run_file(large: bool, path: &[u8]) {
+fn run_file<R: Files + Print>(rt: &R, large: bool, path: &[u8]) -> io::Result<()> {
     let mut text = room::most(0);
-    let len = read_file(path, &mut text);
-    print_tally(run(large, &text[..len]));
+    let len = read_file(rt, path, &mut text)?;
+    print_tally(rt, run(large, &text[..len]))
 }
 
 // Cases of a third reading of 01, and those of the second implementation.
-fn run_right() {
-    run_file(false, b"garble");
-    run_file(false, b"garble-generated");
-    run_file(false, b"garble-one-operand");
-    run_file(false, b"garble-runs");
-    run_file(false, b"garble-rekeyed");
-    run_file(false, b"garble-named");
-    run_file(false, b"garble-hashed");
-    run_file(false, b"garble-no-room");
-    run_file(true, b"garble-large");
-    run_file(true, b"garble-large-rekeyed");
+fn run_right<R: Files + Print>(rt: &R) -> io::Result<()> {
+    run_file(rt, false, b"garble")?;
+    run_file(rt, false, b"garble-generated")?;
+    run_file(rt, false, b"garble-one-operand")?;
+    run_file(rt, false, b"garble-runs")?;
+    run_file(rt, false, b"garble-rekeyed")?;
+    run_file(rt, false, b"garble-named")?;
+    run_file(rt, false, b"garble-hashed")?;
+    run_file(rt, false, b"garble-no-room")?;
+    run_file(rt, true, b"garble-large")?;
+    run_file(rt, true, b"garble-large-rekeyed")
 }
 
 // Cases that are wrong on purpose: right ones in which one thing that is compared was changed. None may agree, or the
 // comparison compares nothing.
-fn run_wrong() {
-    run_file(false, b"wrong-garble");
-    run_file(true, b"wrong-garble-large");
+fn run_wrong<R: Files + Print>(rt: &R) -> io::Result<()> {
+    run_file(rt, false, b"wrong-garble")?;
+    run_file(rt, true, b"wrong-garble-large")
 }
 
-fn main() {
-    run_right();
-    run_wrong();
+fn main(rt: HostRuntime) -> io::Result<()> {
+    run_right(&rt)?;
+    run_wrong(&rt)
 }
