@@ -1,8 +1,8 @@
 //! The script `wrong_programs` beside this folder, which judges whether the prover refuses each wrong program: it
 //! must be able to say no. Each test has a folder with a copy of the script, a small repository whose edits are
 //! made here, and a stand-in for `rt` that says what the prover would, in the prover's own form. So no toolchain is
-//! needed. Tested are which edits share a check, when an edit counts as refused and when it does not, the control
-//! for each crate, edits for the compiler, what ends the script before a check, and `--changed`.
+//! needed. Tested are that each edit has a check of its own, when an edit counts as refused and when it does not, the
+//! control for each crate, edits for the compiler, what ends the script before a check, and `--changed`.
 
 #[allow(dead_code)] // Not all of it is used here.
 mod places;
@@ -17,9 +17,10 @@ use std::thread;
 const REPOSITORY: &str = "a repository";
 const SCRIPT: &str = "a repository/tests/wrong_programs";
 
-const CRATES: &str = "# The last has no edits.\nblock:\nbuffer: block\nplain: block\n";
+const CRATES: &str =
+    "# The last has no edits.\nblock:\nbuffer staticlib: block\nplain may_wait=2: block\n";
 
-/// The sources of crate `block`, in the layout of `rt fmt`. `doubled` and `shifted` begin on the same line.
+/// The sources of crate `block`, in the layout of `rt fmt`.
 const LIB: &str = r#"// Blocks.
 mod halves;
 
@@ -32,7 +33,7 @@ pub struct Block {
 impl Block {
     // Twice the block.
     pub fn doubled(self) -> Block
-        ensures { λ r. ⌜ r .bytes ≡ double (self .bytes) ⌝ }
+        ensures { result.bytes ≡ double self.bytes }
     {
         let two = 2;
         self.times(two)
@@ -45,8 +46,8 @@ impl Block {
 
 // The block at an index.
 pub fn load(s: &[u8], at: usize) -> Block
-    requires { ⌜ at + 16 ≤ length (now s) ⌝ }
-    ensures { λ r. ⌜ r .bytes ≡ take 16 (drop at (now (s .entry))) ⌝ }
+    requires { at + 16 ≤ length s.now }
+    ensures { result.bytes ≡ take 16 (drop at s.now) }
 {
     let mut x = [0u8; 16];
     for i in 0..16 {
@@ -55,7 +56,7 @@ pub fn load(s: &[u8], at: usize) -> Block
     Block { bytes: x }
 }
 
-#[no_mangle]
+#[unsafe(no_mangle)]
 pub extern "C" fn count() -> u8 {
     FIRST + 7
 }
@@ -73,7 +74,7 @@ impl Halves {
     // Moved by one bit. What leaves a word at its end
     // comes into the other.
     pub fn shifted(self) -> Halves
-        ensures { λ r. ⌜ r ≡ twice self ⌝ }
+        ensures { result ≡ twice self }
     {
         self.moved(1)
     }
@@ -98,81 +99,97 @@ type Spot<'a> = [&'a str; 3];
 const DOUBLED: Spot = [
     "src/lib.rt",
     "times(two)",
-    "proofs/Block/doubled/Proof.antt returns",
+    "proofs/Block/doubled/Answers.antt returns",
 ];
 const ZERO: Spot = [
     "src/lib.rt",
     "[0; 16]",
-    "proofs/Block/zero/Proof.antt zero-spec",
+    "proofs/Block/zero/Answers.antt returns-zero",
 ];
 const LOAD: Spot = [
     "src/lib.rt",
     "s[at + i]",
-    "proofs/load/Proof.antt loop-again",
+    "proofs/load/Answers.antt loop-i-preserved",
 ];
-const COUNT: Spot = ["src/lib.rt", "+ 7", "proofs/count/Proof.antt returns"];
+const COUNT: Spot = ["src/lib.rt", "+ 7", "proofs/count/Answers.antt returns"];
 const SHIFTED: Spot = [
     "src/halves.rt",
     "moved(1)",
-    "proofs/halves/Halves/shifted/Proof.antt returns",
+    "proofs/halves/Halves/shifted/Answers.antt returns",
 ];
-const LAW: Spot = ["specs/Laws.antt", "x + x", "proofs/Laws.antt doubled-law"];
+const LAW: Spot = ["specs/Laws.antt", "x + x", "proofs/Laws.antt doubled_law"];
 const WRITE16: Spot = [
     "src/lib.rt",
     "high(value)",
-    "proofs/write16/Proof.antt returns",
+    "proofs/write16/Answers.antt returns",
 ];
-const BOTH: Spot = ["src/lib.rt", "a + b", "proofs/both/Proof.antt cast-t6"];
+const BOTH: Spot = [
+    "src/lib.rt",
+    "a + b",
+    "proofs/both/Answers.antt overflow_add-result",
+];
 
 /// The stand-in for `rt`. An edit LABEL puts `wrong_LABEL` into a file, and `says/LABEL` is what the prover does
 /// then, in sh: it prints by the functions here, or ends with a status of its own. If nothing is printed, the crate
 /// is proved. Each check leaves a line: the crate and the edits that it sees.
-const RT: &str = r#"command=$1
-shift
-if [ "$command" = check ]; then
-    echo "check: $*" >>"$root/ran"
+const RT: &str = r#"command=$*
+name=${PWD##*/}
+case $PWD in
+*/target/wrong/*) ;;
+*)
+    echo "check: $name" >>"$root/ran"
     . "$root/check-does"
-    for name; do
-        mkdir -p "target/rlib/$name.rlib/toolchain/checked" target/stamp
-        echo "$name" >"target/rlib/$name.rlib/toolchain/checked/file"
-    done
+    mkdir -p out/incremental/x
+    for file in file.oantt judged; do echo "$name" >out/incremental/x/$file; done
     exit 0
-fi
-name=$1
-if [ "$name" = probe ]; then
-    . "$root/probe-does"
-    exit 0
-fi
+    ;;
+esac
 echo begins >>"$root/order"
-echo "$TMPDIR" >"$root/scratch"
-crate=$PWD/crates/$name
-edits=$(grep -rhoE 'wrong_[a-z0-9_]+' "$crate" | sort -u)
-over=', nothing taken over' checked=target/inc/$name/antt-checked-x/file
-if [ -f "$checked" ] && read -r of <"$checked" && [ "$of" = "$name" ]; then over=; fi
+edits=$(grep -rhoE 'wrong_[a-z0-9_]+' src specs proofs 2>/dev/null | sort -u)
+over=', nothing taken over' checked=out/incremental/x
+if cmp -s $checked/file.oantt $checked/judged && read -r of <$checked/judged && [ "$of" = "$name" ]; then over=; fi
 echo "$name$over:" $edits >>"$root/ran"
-# The room has the crate and all that it needs, and the prover's lines are wanted whole.
-[ "$command $RT_CUT" = 'dev 0' ] && [ -f crates.txt ] && [ -f "$crate/proofs/Lib.antt" ] &&
-    [ -f crates/plain/src/lib.rt ] && [ -d target/rlib ] && [ -d target/stamp ] || exit 2
+# The prover leaves its own files. It changes no file of what was proved, and puts another in its place.
+echo another >>$checked/judged
+rm $checked/file.oantt
+# The copy has the crate and all that it needs, as they stand.
+[ "$command" = 'check --jobs 1' ] && [ -f ../../crates.txt ] && [ -f proofs/Lib.antt ] && [ -f ../plain/src/lib.rt ] || exit 2
+[ "$(grep -rl wrong_ ../*/src ../*/specs 2>/dev/null | sed 's|^\.\./||; s|/.*||' | sort -u)" = "${edits:+$name}" ] || exit 2
 fact() {
-    echo "$crate/$1:9:13: error: \`$2\`: computed as far as they go, the two types differ only where one has \`1\`" \
+    echo "./$1:9:13: error: \`$2\`: computed as far as they go, the two types differ only where one has \`1\`" \
         "(expected) and the other has \`2\` (found)"
-    echo "$crate/$1:8:1: note: the two sides may simply be different: then what follows is of no use. (in \`$2\`)"
+    echo "./$1:8:1: note: the last of 3 trial runs of this declaration was refused too. (in \`$2\`)"
 }
 waits() {
-    echo "$crate/$1:6:16: error: \`$2\`: \`close\` was not admitted (it has holes or undetermined implicits, or was" \
+    echo "./$1:6:16: error: \`$2\`: \`close\` was not admitted (it has holes or undetermined implicits, or was" \
         "rejected), so this cannot be checked"
+    echo "./$1:7:1: error: 1 declaration that depends on \`close\`, which was not admitted, was not checked: $2"
+}
+lacks() {
+    echo "./$1:6:34: error: \`$2\`: \`goal.$2\`: module \`Rattle.$name.Goals\` has no \`$2\` that can be named from here"
+    echo "./$1:7:8: error: \`$2\`: \`$2\` is not in scope"
+    echo "./$1:7:9: error: \`$2\`: the record has no field \`$2\`"
 }
 error() {
     fact "$1" "$2"
     waits "$1" what-follows
 }
 no_proof() {
-    echo "note: $crate/src/lib.rt:2:1: it is not proved that what the function ensures holds when it returns"
-    echo "fn $name::$1: no proof: expected \`$1-spec\` in $crate/proofs/$1/Proof.antt; \`search\` does not close $2"
-    echo "help: write $crate/proofs/$1/Proof.antt with these lines, and check again"
+    echo "note: src/lib.rt:2:1: a goal may be false even if its line does not say so (\`other\`)"
+    for goal in $2; do
+        echo "note: src/lib.rt:2:1: it is not proved that what the function ensures holds when it returns (\`$goal\`)"
+    done
+    echo "note: to see how far a \`search\` got, write \`search rules\` in place of that hole"
+    echo "fn $name::$1: $3"
+    echo "help: write ./proofs/$1/Answers.antt with these lines, and check again: \`goal\`"
+}
+gave_up() {
+    echo "note: src/lib.rt:2:1: it is not proved that what the function ensures holds when it returns (\`$2\`); \`search\`" \
+        "gave up at one of its limits"
+    echo "fn $name::$1: not proved"
 }
 mismatch() {
-    echo "$crate/src/lib.rt:3:5: error[mismatched-types]: expected \`$1\`, found \`$2\`"
+    echo "src/lib.rt:3:5: error[mismatched-types]: expected \`$1\`, found \`$2\`"
 }
 said=$(for edit in $edits; do . "$root/says/${edit#wrong_}"; done)
 status=$?
@@ -185,8 +202,6 @@ if [ -n "$said" ]; then
 fi
 echo logic=proved functions=19
 "#;
-
-const PROBE: &str = "mkdir -p target/inc/probe/antt-checked-x";
 
 impl Place {
     /// A repository where the edits of crate `buffer` are refused, and those of `block` are still to be made.
@@ -203,17 +218,21 @@ impl Place {
             place.put(&format!("crates/{name}/proofs/Lib.antt"), "");
         }
         place.edit("tests/wrong/buffer/write16", WRITE16);
-        place.says("write16", "no_proof write16 '`returns`'");
+        place.says("write16", "no_proof write16 returns 'not proved'");
         place.edit("crates/buffer/must-fail/both", BOTH);
-        place.says("both", "no_proof both '`cast-t6` and `returns`'");
+        let no_file =
+            "no proof: expected answers in ./proofs/both/Answers.antt; `search` did not prove";
+        place.says(
+            "both",
+            &format!("no_proof both '' '{no_file} `overflow_add-result` and `returns`'"),
+        );
         place.put(
             "tests/wrong_types/buffer/colour.edit",
-            "says: expected `Colour`, found `Truth`\nfile: src/lib.rt\nold: low(value)\nnew: wrong_colour\n",
+            "# says: expected `Colour`, found `Truth`\nfile: src/lib.rt\nold: low(value)\nnew: wrong_colour\n",
         );
         place.says("colour", "mismatch Colour Truth; exit 1");
         place.stand_in("tools/rt", RT);
         place.write("check-does", b"");
-        place.write("probe-does", PROBE.as_bytes());
         place
     }
 
@@ -236,7 +255,7 @@ impl Place {
     fn edit(&self, name: &str, [file, old, at]: Spot) {
         let (_, label) = name.rsplit_once('/').expect("a folder and a label");
         let text =
-            format!("# A comment.\nat: {at}\nfile: {file}\nold: {old}\nnew: wrong_{label}\n");
+            format!("# A comment.\n# at: {at}\nfile: {file}\nold: {old}\nnew: wrong_{label}\n");
         self.put(&format!("{name}.edit"), &text);
         self.says(label, &format!("error {at}"));
     }
@@ -309,7 +328,6 @@ fn elsewhere(label: &str, at: &str, facts: &str) -> String {
 fn said(ended: &Ended) -> Vec<String> {
     let lines = ended.stdout.lines();
     let said = lines.filter_map(|line| line.strip_prefix("wrong_programs: "));
-    let said = said.filter(|line| !line.contains(": a check of "));
     let said = said.map(|line| match line.rsplit_once(" (") {
         Some((before, time)) if time.ends_with(" s)") => before.to_owned(),
         _ => line.to_owned(),
@@ -359,46 +377,40 @@ fn all_are_refused() {
     ends(&place.run(&[]), 8, 0, due);
     let ran = [
         "block:",
-        "block: doubled load",
+        "block: doubled",
         "block: law",
+        "block: load",
         "buffer:",
-        "buffer: both write16",
+        "buffer: both",
         "buffer: colour",
-        "check: block buffer",
+        "buffer: write16",
+        "check: block",
+        "check: buffer",
     ];
     assert_eq!(place.ran(), ran);
     // An edit is made in a copy, of which nothing stays, and nothing of what the prover leaves in its folder.
     assert_eq!(place.read("a repository/crates/block/src/lib.rt"), LIB);
+    let kept = "a repository/crates/block/out/incremental/x";
+    for file in ["file.oantt", "judged"] {
+        assert_eq!(place.read(&format!("{kept}/{file}")), "block\n");
+    }
     assert!(!place.exists("a repository/target/wrong"));
-    let scratch = place.read("scratch");
-    assert!(!Path::new(scratch.trim_end()).exists(), "{scratch}");
 }
 
+/// One check at a time, though one takes longer: in one copy, which is as it was after each.
 #[test]
-fn singly() {
-    let place = Place::new("singly");
+fn one_at_a_time() {
+    let place = Place::new("one_at_a_time");
     place.wrong("doubled", DOUBLED);
     place.wrong("load", LOAD);
+    place.says("doubled", &format!("sleep 0.2; error {}", DOUBLED[2]));
     let due = vec![
         proved("block"),
         refused("block/doubled", DOUBLED),
         refused("block/load", LOAD),
     ];
-    let ended = place.run(&["block", "--singly"]);
-    ends(&ended, 3, 0, due.clone());
+    ends(&place.run_jobs(&["block"], "1"), 3, 0, due);
     let ran = ["block:", "block: doubled", "block: load", "check: block"];
-    assert_eq!(place.ran(), ran);
-    // From nothing: it is not asked where earlier checks are kept. And one at a time, though one takes longer.
-    place.write("probe-does", b"exit 1");
-    place.says("doubled", &format!("sleep 0.2; error {}", DOUBLED[2]));
-    let ended = place.run_jobs(&["--from-nothing", "block"], "1");
-    ends(&ended, 3, 0, due);
-    let ran = [
-        "block, nothing taken over:",
-        "block, nothing taken over: doubled",
-        "block, nothing taken over: load",
-        "check: block",
-    ];
     assert_eq!(place.ran(), ran);
     assert_eq!(place.read("order"), "begins\nends\n".repeat(3));
 }
@@ -407,7 +419,7 @@ fn singly() {
 const ONE_TEXT: [(&str, Spot); 9] = [
     ("argument", ["src/lib.rt", "at: usize", LOAD[2]]),
     ("constant", ["src/lib.rt", "u8 = 1", COUNT[2]]),
-    ("contract", ["src/lib.rt", "double (self", DOUBLED[2]]),
+    ("contract", ["src/lib.rt", "double self", DOUBLED[2]]),
     ("count", COUNT),
     ("doubled", DOUBLED),
     ("doubled_too", ["src/lib.rt", "two = 2", DOUBLED[2]]),
@@ -426,46 +438,39 @@ const TWO_TEXTS: [(&str, Spot, [&str; 2]); 4] = [
 ];
 
 #[test]
-fn which_edits_share_a_check() {
-    let place = Place::new("sharing");
+fn each_has_a_check_of_its_own() {
+    let place = Place::new("its_own");
+    let mut ran = vec!["block:".to_owned(), "check: block".to_owned()];
     for (label, spot) in ONE_TEXT {
         place.wrong(label, spot);
+        ran.push(format!("block: {label}"));
     }
     for (label, spot, [file, old]) in TWO_TEXTS {
         place.wrong(label, spot);
         let more = format!("file: {file}\nold: {old}\nnew: other\n");
         place.append(&format!("tests/wrong/block/{label}.edit"), &more);
+        ran.push(format!("block: {label}"));
     }
+    ran.sort();
     counts(&place.run(&["block"]), 14, 0);
-    let ran = [
-        "block:",
-        "block: argument",
-        "block: body_and_law",
-        "block: constant",
-        "block: contract",
-        "block: count doubled load shifted zero",
-        "block: doubled_too",
-        "block: law",
-        "block: two",
-        "block: two_files",
-        "check: block",
-    ];
     assert_eq!(place.ran(), ran);
 }
 
 #[test]
-fn all_functions_share_a_check() {
-    let place = Place::new("all_functions");
+fn many_edits() {
+    let place = Place::new("many_edits");
     let mut source = String::new();
     for name in 'a'..='m' {
         source += &format!("fn {name}() {{\n    {name}{name}\n}}\n");
-        let at = format!("proofs/many/{name}/Proof.antt returns");
+        let at = format!("proofs/many/{name}/Answers.antt returns");
         let old = format!("{name}{name}");
         place.wrong(&name.to_string(), ["src/many.rt", &old, &at]);
     }
     place.put("crates/block/src/many.rt", &source);
     counts(&place.run(&["block"]), 14, 0);
-    let ran = ["block:", "block: a b c d e f g h i j k l m", "check: block"];
+    let mut ran: Vec<String> = ('a'..='m').map(|name| format!("block: {name}")).collect();
+    ran.insert(0, "block:".to_owned());
+    ran.push("check: block".to_owned());
     assert_eq!(place.ran(), ran);
 }
 
@@ -481,60 +486,64 @@ fn not_refused() {
     }
     ends(&place.run(&["block"]), 1, 3, due);
     // What the prover said stays, to be looked at.
-    let said = place.read("a repository/target/wrong/block/law/said");
+    let said = place.read("a repository/target/wrong/block/law");
     assert_eq!(said, "logic=proved functions=19\n");
 }
 
-/// Of edits that share a check, some show no error of their own, or only one under another name.
+/// Some show no error of their own, or only one under another name, beside those of other functions.
 #[test]
 fn not_refused_beside_others() {
     let place = Place::new("beside");
+    let other = "error proofs/load/Answers.antt loop-i-preserved";
     let edits = [
-        ("count", COUNT, "no_proof count '`cast-t6` and `returns-2`'"),
+        (
+            "count",
+            COUNT,
+            "no_proof count 'cast-t6 returns-2' 'not proved'",
+            "proofs/count/Answers.antt cast-t6,proofs/count/Answers.antt returns-2,",
+        ),
         (
             "doubled",
             DOUBLED,
-            "fact proofs/Block/doubled/Proof.antt doubled-spec",
+            "fact proofs/Block/doubled/Answers.antt returns-2",
+            "proofs/Block/doubled/Answers.antt returns-2,",
         ),
-        ("load", LOAD, "error proofs/load/Proof.antt loop-again"),
-        ("zero", ZERO, ""),
+        (
+            "callee",
+            COUNT,
+            "no_proof count '' 'no proof: expected answers in x; `search` did not prove `cast`; it calls `returns`'",
+            "proofs/count/Answers.antt cast,",
+        ),
+        ("zero", ZERO, ":", ""),
     ];
-    for (label, spot, does) in edits {
+    let mut due = vec![proved("block"), refused("block/load", LOAD)];
+    for (label, spot, does, facts) in edits {
         place.wrong(label, spot);
-        place.says(label, does);
+        place.says(label, &format!("{other}; {does}"));
+        let facts = format!("{facts}{}", LOAD[2]);
+        due.push(elsewhere(&format!("block/{label}"), spot[2], &facts));
     }
-    let facts = "proofs/Block/doubled/Proof.antt doubled-spec,proofs/count/Proof.antt cast-t6,\
-        proofs/count/Proof.antt returns-2,proofs/load/Proof.antt loop-again";
-    let due = vec![
-        proved("block"),
-        elsewhere("block/count", COUNT[2], facts),
-        elsewhere("block/doubled", DOUBLED[2], facts),
-        refused("block/load", LOAD),
-        elsewhere("block/zero", ZERO[2], facts),
-    ];
-    ends(&place.run(&["block"]), 2, 3, due);
-    let ran = ["block:", "block: count doubled load zero", "check: block"];
-    assert_eq!(place.ran(), ran);
+    place.wrong("load", LOAD);
+    ends(&place.run(&["block"]), 2, 4, due);
 }
 
-/// An edit that has a check to itself. An error that follows from another is no fact that does not hold.
+/// An error that follows from another, or that says that a name is missing, is no fact that does not hold. Nor is it one that the
+/// prover gave up at a limit of its own.
 #[test]
 fn refused_elsewhere() {
     let place = Place::new("elsewhere");
-    let other = "proofs/Other.antt doubled-law";
+    let other = "proofs/Other.antt doubled_law";
     let cases = [
-        ("follows", "waits proofs/Laws.antt doubled-law", ""),
-        ("file", "error proofs/Other.antt doubled-law", other),
-        (
-            "crate",
-            "crate=$PWD/crates/plain; error proofs/Laws.antt doubled-law",
-            "",
-        ),
+        ("follows", "waits proofs/Laws.antt doubled_law", ""),
+        ("missing", "lacks proofs/Laws.antt doubled_law", ""),
+        ("file", "error proofs/Other.antt doubled_law", other),
+        ("crate", "error ../plain/proofs/Laws.antt doubled_law", ""),
         (
             "unnamed",
-            "echo \"$crate/proofs/Laws.antt:1:1: error: doubled-law\"",
+            "echo './proofs/Laws.antt:1:1: error: doubled_law'",
             "",
         ),
+        ("limit", "gave_up doubled law", ""),
     ];
     let mut due = vec![proved("block")];
     for (label, does, facts) in cases {
@@ -542,71 +551,50 @@ fn refused_elsewhere() {
         place.says(label, does);
         due.push(elsewhere(&format!("block/{label}"), LAW[2], facts));
     }
-    // It names no place, and so shares no check.
+    // It names no place.
     let lines = "file: src/lib.rt\nold: times(two)\nnew: wrong_nowhere\n";
     place.put("tests/wrong/block/nowhere.edit", lines);
-    place.says("nowhere", "error proofs/Block/doubled/Proof.antt returns");
+    place.says("nowhere", &format!("error {}", DOUBLED[2]));
     due.push(elsewhere("block/nowhere", "", DOUBLED[2]));
     place.wrong("count", COUNT);
     due.push(refused("block/count", COUNT));
-    ends(&place.run(&["block"]), 2, 5, due);
+    ends(&place.run(&["block"]), 2, 7, due);
 }
 
-/// The proof of a caller may say no more than that it waits for another. Then it is checked without the other.
+/// The proof of a caller may say no more than that it waits for another. An edit of the caller is not refused by that.
 #[test]
-fn checked_again() {
-    let place = Place::new("again");
-    let edits = [
-        (
-            "doubled",
-            DOUBLED,
-            "error proofs/Block/doubled/Proof.antt returns",
-        ),
-        ("load", LOAD, ":"),
-        ("zero", ZERO, "waits proofs/Block/zero/Proof.antt zero-spec"),
-    ];
-    for (label, spot, does) in edits {
-        place.wrong(label, spot);
-        let at = spot[2];
-        let does = format!("case $edits in *shifted*) waits {at} ;; *) {does} ;; esac");
-        place.says(label, &does);
-    }
+fn a_caller_that_waits() {
+    let place = Place::new("waits");
     place.wrong("shifted", SHIFTED);
+    place.wrong("zero", ZERO);
+    let waits = format!("waits {}", ZERO[2]);
+    place.says("shifted", &format!("error {}; {waits}", SHIFTED[2]));
+    place.says("zero", &format!("error {}; {waits}", SHIFTED[2]));
     let due = vec![
         proved("block"),
-        refused("block/doubled", DOUBLED),
-        elsewhere("block/load", LOAD[2], DOUBLED[2]),
         refused("block/shifted", SHIFTED),
-        elsewhere("block/zero", ZERO[2], ""),
+        elsewhere("block/zero", ZERO[2], SHIFTED[2]),
     ];
-    ends(&place.run(&["block"]), 3, 2, due);
-    let ran = [
-        "block:",
-        "block: doubled load shifted zero",
-        "block: doubled load zero",
-        "block: zero",
-        "check: block",
-    ];
+    ends(&place.run(&["block"]), 2, 1, due);
+    let ran = ["block:", "block: shifted", "block: zero", "check: block"];
     assert_eq!(place.ran(), ran);
 }
 
-/// An error in a proof that no edit of a check names shows that one of them reaches further than its function.
+/// An edit may fail at more places than its own.
 #[test]
-fn not_apart() {
-    let place = three_edits("not_apart");
+fn more_places() {
+    let place = three_edits("more_places");
     let more =
-        "error proofs/Block/zero/Proof.antt zero-spec; error proofs/count/Proof.antt returns";
+        "error proofs/Block/zero/Answers.antt returns; error proofs/count/Answers.antt returns";
     place.says("load", &format!("error {}; {more}", LOAD[2]));
-    // One that has a check to itself may do so.
-    place.says("law", &format!("error {}; {more}", LAW[2]));
+    place.says("law", &format!("{more}; error {}", LAW[2]));
     let due = vec![
         proved("block"),
-        "block: NOT APART: load doubled fail at what none of them names: \
-            proofs/Block/zero/Proof.antt proofs/count/Proof.antt"
-            .to_owned(),
+        refused("block/doubled", DOUBLED),
         refused("block/law", LAW),
+        refused("block/load", LOAD),
     ];
-    ends(&place.run(&["block"]), 2, 2, due);
+    ends(&place.run(&["block"]), 4, 0, due);
 }
 
 /// A text that stands twice in the source, in the bodies of two functions.
@@ -618,7 +606,7 @@ fn bad_edits() {
     place.wrong("missing", ["src/lib.rt", "times(three)", DOUBLED[2]]);
     place.wrong("twice", TWICE);
     place.wrong("no_file", ["src/other.rt", "times(two)", DOUBLED[2]]);
-    let head = "at: a b\nfile: src/lib.rt\n";
+    let head = "# at: a b\nfile: src/lib.rt\n";
     place.put("tests/wrong/block/no_pair.edit", head);
     place.put("tests/wrong/block/no_old.edit", &format!("{head}new: x\n"));
     let unanswered = [
@@ -643,14 +631,30 @@ fn bad_edits() {
     ends(&place.run(&["block"]), 1, 7, due);
 }
 
-/// Where an edit of a check cannot be made, none of them is refused.
+/// Where an edit cannot be made, nothing is checked for it, and those beside it are tried all the same.
 #[test]
 fn a_bad_edit_beside_others() {
     let place = Place::new("bad_edit_beside");
     place.wrong("doubled", DOUBLED);
     place.wrong("twice", TWICE);
-    counts(&place.run(&["block"]), 1, 2);
-    assert_eq!(place.ran(), ["block:", "check: block"]);
+    counts(&place.run_jobs(&["block"], "1"), 2, 1);
+    assert_eq!(place.ran(), ["block:", "block: doubled", "check: block"]);
+}
+
+/// One whose first pair fits and whose second does not leaves nothing in the copy.
+#[test]
+fn half_a_bad_edit() {
+    let place = Place::new("half_bad");
+    place.wrong("doubled", DOUBLED);
+    place.append("tests/wrong/block/doubled.edit", "old: three\nnew: four\n");
+    place.wrong("zero", ZERO);
+    let due = vec![
+        "block/doubled: BAD EDIT: the text 'three' does not stand in src/lib.rt just once"
+            .to_owned(),
+        proved("block"),
+        refused("block/zero", ZERO),
+    ];
+    ends(&place.run_jobs(&["block"], "1"), 2, 1, due);
 }
 
 /// Then the refusals are not the edits'.
@@ -660,6 +664,7 @@ fn a_crate_that_is_not_proved_over_the_copy() {
     place.wrong("law", LAW);
     place.put("crates/block/src/more.rt", "// wrong_unchanged\n");
     place.says("unchanged", "error proofs/Lib.antt returns");
+    place.says("law", &format!("error {}", LAW[2]));
     let control = "block unchanged: NOT PROVED over a copy of what was checked: no refusal of its edits means anything";
     let due = vec![control.to_owned(), refused("block/law", LAW)];
     ends(&place.run(&["block"]), 1, 1, due);
@@ -675,20 +680,21 @@ fn crates_that_are_not_proved() {
     assert_eq!(ended.stdout, "one reason\nanother reason\n");
     let due = "wrong_programs: the crates are not proved as they stand\n";
     assert_eq!(ended.stderr, due);
-    assert_eq!(place.ran(), ["check: block buffer"]);
+    assert_eq!(place.ran(), ["check: block"]);
 }
 
+/// Where no copy can be made, nothing is refused.
 #[test]
-fn no_folder_to_take_over() {
-    let place = three_edits("no_folder");
-    let two = format!("{PROBE} target/inc/probe/antt-checked-y");
-    let failed = format!("{PROBE}; exit 1");
-    for does in ["mkdir -p target/inc/probe", &two, &failed] {
-        place.write("probe-does", does.as_bytes());
-        let ended = place.run(&[]);
-        ended.is_error("rt dev keeps what it checked in no folder that is known here\n");
-        assert_eq!(place.ran(), ["check: block buffer"]);
-    }
+fn no_copy() {
+    let place = Place::new("no_copy");
+    place.wrong("law", LAW);
+    place.write("check-does", b"rm -r ../plain");
+    let ended = place.run(&["block"]);
+    assert_eq!(ended.status, Some(1), "{ended:?}");
+    assert_eq!(ended.stdout, "0 passed, 2 failed\n");
+    let due = "wrong_programs: cannot make a copy of the crates\n";
+    assert!(ended.stderr.contains(due), "{ended:?}");
+    assert_eq!(place.ran(), ["check: block"]);
 }
 
 #[test]
@@ -706,7 +712,7 @@ fn wrong_types() {
     let mut due = vec![proved("block")];
     for (label, words, does, status) in cases {
         let lines =
-            format!("says: {words}\nfile: src/lib.rt\nold: times(two)\nnew: wrong_{label}\n");
+            format!("# says: {words}\nfile: src/lib.rt\nold: times(two)\nnew: wrong_{label}\n");
         place.put(&format!("tests/wrong_types/block/{label}.edit"), &lines);
         place.says(label, does);
         due.push(match label {
@@ -761,9 +767,10 @@ fn what_would_be_passed_over() {
 #[test]
 fn wrong_usage() {
     let place = three_edits("usage");
-    let usage = "usage: tests/wrong_programs [--changed] [--singly] [--from-nothing] [NAME..]";
+    let usage = "usage: tests/wrong_programs [--changed] [NAME..]";
     let cases = [
         (&["--single"][..], usage),
+        (&["--singly"], usage),
         (&["block", "-h"], usage),
         (&["block", "plain"], "there are no edits of a crate plain"),
         (&["blocks"], "there are no edits of a crate blocks"),
@@ -802,7 +809,7 @@ fn only_what_changed() {
         (ended.stdout, place.ran())
     };
     let (_, ran) = changed(6, 0);
-    assert!(ran.contains(&"check: block buffer".to_owned()), "{ran:?}");
+    assert!(ran.contains(&"check: buffer".to_owned()), "{ran:?}");
     let none = "wrong_programs: NOT RUN, since no crate changed\n0 passed, 0 failed\n";
     assert_eq!(changed(0, 0), (none.to_owned(), Vec::new()));
     let block = ["block:", "block: law", "check: block"];
@@ -813,17 +820,19 @@ fn only_what_changed() {
     place.append("tests/wrong_types/buffer/colour.edit", "# More.\n");
     let buffer = [
         "buffer:",
-        "buffer: both write16",
+        "buffer: both",
         "buffer: colour",
+        "buffer: write16",
         "check: buffer",
     ];
     assert_eq!(changed(4, 0).1, buffer);
     // What failed is tried again, though nothing changed.
     place.says("law", "");
     counts(&place.run(&["block"]), 1, 1);
-    place.says("law", "error proofs/Laws.antt doubled-law");
+    place.says("law", "error proofs/Laws.antt doubled_law");
     assert_eq!(changed(2, 0).1, block);
 }
+
 /// The prover may read its standard input. It gets nothing of the script's.
 #[test]
 fn standard_input_of_the_prover() {
@@ -831,7 +840,7 @@ fn standard_input_of_the_prover() {
     for (label, spot) in [("doubled", DOUBLED), ("law", LAW), ("load", LOAD)] {
         place.says(label, &format!("cat >/dev/null; error {}", spot[2]));
     }
-    let ended = place.run_jobs(&["--singly", "block"], "1");
+    let ended = place.run_jobs(&["block"], "1");
     counts(&ended, 4, 0);
 }
 
@@ -848,14 +857,17 @@ fn a_name_given_twice() {
     }
 }
 
-/// Edits of one check that all fail elsewhere in their proofs, where something then waits: it ends.
+/// Edits that all fail elsewhere in their proofs, where something then waits: it ends.
 #[test]
-fn all_of_a_check_fail_under_other_names() {
+fn all_fail_under_other_names() {
     let place = Place::new("other_names");
     place.wrong("doubled", DOUBLED);
     place.wrong("load", LOAD);
-    place.says("doubled", "error proofs/Block/doubled/Proof.antt returns-2");
-    place.says("load", "error proofs/load/Proof.antt returns-2");
+    place.says(
+        "doubled",
+        "error proofs/Block/doubled/Answers.antt returns-2",
+    );
+    place.says("load", "error proofs/load/Answers.antt returns-2");
     let ended = place.run(&["block"]);
     counts(&ended, 1, 2);
     assert_eq!(said(&ended).len(), 3, "{ended:?}");
@@ -864,19 +876,19 @@ fn all_of_a_check_fail_under_other_names() {
 
 /// Or all of them only wait.
 #[test]
-fn all_of_a_check_wait() {
+fn all_of_them_wait() {
     let place = Place::new("all_wait");
     place.wrong("doubled", DOUBLED);
     place.wrong("load", LOAD);
-    place.says("doubled", "waits proofs/Block/doubled/Proof.antt returns");
-    place.says("load", "waits proofs/load/Proof.antt loop-again");
+    place.says("doubled", &format!("waits {}", DOUBLED[2]));
+    place.says("load", &format!("waits {}", LOAD[2]));
     let ended = place.run(&["block"]);
     counts(&ended, 1, 2);
     assert_eq!(said(&ended).len(), 3, "{ended:?}");
     assert!(place.ran().len() < 6, "{:?}", place.ran());
 }
 
-/// Edits of two functions that name the same place share no check: its error would count for both.
+/// Edits of two functions that name the same place: an error of the one does not count for the other.
 #[test]
 fn edits_that_name_one_place() {
     let place = Place::new("one_place");
@@ -922,9 +934,9 @@ fn two_places() {
     place.wrong("law", LAW);
     place.append(
         "tests/wrong/block/law.edit",
-        "at: proofs/Other.antt other\n",
+        "# at: proofs/Other.antt other\n",
     );
-    let lines = "says: expected `Colour`, found `Truth`\nsays: error\nfile: src/lib.rt\nold: times(two)\nnew: wrong_colour\n";
+    let lines = "# says: expected `Colour`, found `Truth`\n# says: error\nfile: src/lib.rt\nold: times(two)\nnew: wrong_colour\n";
     place.put("tests/wrong_types/block/types.edit", lines);
     place.says("colour", "mismatch Block Halves; exit 1");
     counts(&place.run(&["block"]), 1, 2);
