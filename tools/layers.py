@@ -44,7 +44,8 @@ def read_crates():
     """Each crate of crates.txt with the crates of this repository that it names, in the file's order."""
     lines = (ROOT / "crates.txt").read_text(encoding="utf-8").splitlines()
     pairs = [line.split(":") for line in lines if line and not line.startswith("#")]
-    named = {name.strip(): rest.split() for name, rest in pairs}
+    # The word staticlib can stand after a name.
+    named = {name.split()[0]: rest.split() for name, rest in pairs}
     return {name: [other for other in rest if other in named] for name, rest in named.items()}
 
 
