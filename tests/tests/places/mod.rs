@@ -46,9 +46,12 @@ lingers() {
 /// be started. So one test runs at a time.
 static ALONE: Mutex<()> = Mutex::new(());
 
+/// A folder that is removed in the end.
+struct Root(PathBuf);
+
 /// A folder for one test.
 pub struct Place {
-    root: PathBuf,
+    root: Root,
     _alone: MutexGuard<'static, ()>,
 }
 
@@ -72,13 +75,13 @@ impl Place {
         }
         fs::create_dir_all(&root).expect("a folder to make");
         Place {
-            root,
+            root: Root(root),
             _alone: alone,
         }
     }
 
     pub fn path(&self, name: &str) -> PathBuf {
-        self.root.join(name)
+        self.root.0.join(name)
     }
 
     pub fn exists(&self, name: &str) -> bool {
@@ -105,7 +108,7 @@ impl Place {
 
     /// Writes a program in sh.
     pub fn stand_in(&self, name: &str, text: &str) {
-        let text = format!("#!/bin/sh\nroot='{}'\n{text}", self.root.display());
+        let text = format!("#!/bin/sh\nroot='{}'\n{text}", self.root.0.display());
         self.write(name, text.as_bytes());
         self.set_mode(name, 0o755);
     }
@@ -124,7 +127,7 @@ impl Place {
             .arg("-c")
             .arg(format!("exec \"$0\" \"$@\" {redirection}"))
             .arg(script)
-            .current_dir(&self.root)
+            .current_dir(&self.root.0)
             .stdin(Stdio::null())
             .stdout(output("stdout"))
             .stderr(output("stderr"))
@@ -217,11 +220,11 @@ impl Place {
     }
 }
 
-impl Drop for Place {
+impl Drop for Root {
     /// The folder of all goes with the last that is in it.
     fn drop(&mut self) {
-        let _ = fs::remove_dir_all(&self.root);
-        let _ = self.root.parent().map(fs::remove_dir);
+        let _ = fs::remove_dir_all(&self.0);
+        let _ = self.0.parent().map(fs::remove_dir);
     }
 }
 
