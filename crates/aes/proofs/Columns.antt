@@ -53,7 +53,7 @@ key_column w r c h =
     λ j l. ap (λ (n : ℕ). get_or w n 0) (omega arith) ∙ sym (entry 0 16 (λ i. get_or w (16 * r + i) 0) (j + 4 * c) (omega arith)) in
     four (byte 0 (omega arith)) (byte 1 (omega arith)) (byte 2 (omega arith)) (byte 3 (omega arith))
 
--- a state with another exclusive_ored in
+-- a state with another exclusive-ored in
 pub added_state : (a b c d p q s t : ℕ) → state (bit_xor a p) (bit_xor b q) (bit_xor c s) (bit_xor d t) ≡ state a b c d ⊕ state p q s t
 unfolding ◌⊕◌ word_of
 added_state a b c d p q s t = join (word_xor a p) (word_xor b q) (word_xor c s) (word_xor d t)

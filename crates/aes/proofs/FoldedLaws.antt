@@ -1,7 +1,7 @@
 -- Two columns in a word: exclusive or by halves, and a round whose key comes last. Assumes nothing.
 use mathlib.Core.Path.{◌≡◌, ap, ap₂, ◌∙◌}
 use mathlib.Core.List.{List}
-use Prim.Native.Nat.{ℕ, ◌/◌, ◌%◌, ◌^◌}
+use Prim.Native.Nat.{ℕ}
 use lib.Bits.{bit_xor, xor_shr, xor_mod, xor_zero_r}
 use Rattle.model.specs.Aes.{◌⊕◌, sub_bytes, shift_rows, mix_columns}
 use Rattle.aes.specs.declared.packed.Words.{Words}

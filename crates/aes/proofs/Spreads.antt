@@ -34,7 +34,7 @@ module _ (m : List ℕ) where
   abbrev pub made : ℕ → ℕ → ℕ → ℕ → ℕ
   made a b c d = bit_xor (bit_xor (bit_xor (t0 a) (t1 b)) (t2 c)) (t3 d)
 
-  -- each column has its look_ups in the order in which the columns before it came
+  -- each column has its look-ups in the order in which the columns before it came
   from_0 : (y a b c d : ℕ) → bit_xor (bit_xor (bit_xor (bit_xor y (t0 a)) (t1 b)) (t2 c)) (t3 d) ≡ bit_xor (made a b c d) y
   from_0 y a b c d = key_last y (t0 a) (t1 b) (t2 c) (t3 d)
 

@@ -85,7 +85,7 @@ mix_rows a b c d =
     (each (one a) (one_more b) (two c) (three d) ∙ turn a b (gmul c 0x02) (gmul d 0x03) ∙ turn b (gmul c 0x02) (gmul d 0x03) a)
     (each (three a) (one b) (one_more c) (two d) ∙ turn (gmul a 0x03) b c (gmul d 0x02) ∙ turn b c (gmul d 0x02) (gmul a 0x03) ∙ turn c (gmul d 0x02) (gmul a 0x03) b)
 
--- the four look_ups of a column, whose rows come from the words a, b, c and d
+-- the four look-ups of a column, whose rows come from the words a, b, c and d
 module _ (m : List ℕ) (is_m : IsTTables m) where
   look : (r x : ℕ) → r < 4 → x < 256 → word_of (get_or m (256 * r + x) 0) ≡ mix_word (alone r (s_box x))
   unfolding IsTTables

@@ -1,5 +1,5 @@
 // A file of cases, and the line that is printed of it: its name, and how many of its cases agree.
-ghost use Rattle.std.specs.Prelude.{◌≤◌, IfOk, length};
+ghost use Rattle.std.specs.Prelude.{◌≡◌, ◌≤◌, IfOk, length};
 
 use std::fs::Files;
 use std::io::{ErrorKind, Print, Read};
@@ -42,9 +42,11 @@ fn name_of(path: &[u8]) -> io::Result<&str> {
     }
 }
 
-// Prints a file's name and reads its bytes; answers how many there are. Where that fails the buffer may hold some of them.
+// Prints a file's name and reads its bytes; answers how many there are. Where that fails the buffer has its length, and may hold some
+// of them.
 pub fn read_file<R: Files + Print>(rt: &R, path: &[u8], text: &mut [u8]) -> io::Result<usize>
-    ensures { IfOk result (λ len. len ≤ length text.new) }
+    ensures read { IfOk result (λ len. len ≤ length text.new) }
+    ensures same_length { length text.new ≡ length text.old }
 {
     rt.write_all(path)?;
     let mut file = fs::open(rt, name_of(path)?)?;

@@ -3,7 +3,7 @@
 -- "Take every accepted circuit, each scheme, every 16-byte seed and every list of input bits, one for each input. The circuit is
 -- garbled by that scheme from that seed, the bits are encoded with the tokens so made, and evaluation works that encoding through
 -- the material so made. Then on every wire the distance, bit by bit, between the token that evaluation leaves there and that wire's
--- zero token .. is the all_zero block exactly when the plain circuit carries 0 there, and the seed's offset R exactly when it carries
+-- zero token .. is the all-zero block exactly when the plain circuit carries 0 there, and the seed's offset R exactly when it carries
 -- 1. Decoding the tokens that evaluation left on the outputs, with the same material, gives exactly the bits that the plain circuit
 -- carries there, in the order of the outputs."
 --

@@ -1,10 +1,10 @@
 -- Document 02, job 1: "The chain from seed to bit then holds of the comparison itself." Of what `chain` promises of its buffers (Chain), where the
 -- circuit is a comparator and the values are the bits of a price and of a ceiling.
-use Rattle.std.specs.Prelude.{ℕ, ◌≤◌, ◌<◌, ◌^◌, ◌≡◌, List, length, take}
+use Rattle.std.specs.Prelude.{ℕ, ◌<◌, ◌^◌, ◌≡◌, List, length, take}
 use Rattle.model.specs.declared.Wanted.{Wanted}
 use Rattle.model.specs.Garbling.{Known}
 use Rattle.model.specs.Refusals.{fine, verdict_of, mark_verdict}
-use Rattle.comparator.specs.Compares.{figures, SaysAtMost, Compares}
+use Rattle.comparator.specs.Compares.{figures, SaysAtMost}
 use Rattle.chain.specs.declared.Chained.{Chained}
 use Rattle.chain.specs.Chain.{IsRoom, GarbleStops, ChainIs}
 

@@ -13,7 +13,7 @@ use Rattle.model.specs.declared.Ran.{Ran}
 use Rattle.model.specs.declared.Refusal.{Refusal}
 use Rattle.model.specs.declared.Sizes.{Sizes}
 use Rattle.model.specs.Bytes.{be16}
-use Rattle.model.specs.Circuit.{circuit_of, mark_at, outputs, named, output_at}
+use Rattle.model.specs.Circuit.{circuit_of, mark_at, named, output_at}
 use Rattle.model.specs.Refusals.{Verdict, fine, refused, refuse, ◌then◌, first_of, verdict_of, output_verdict, outputs_verdict}
 use Rattle.model.specs.Operations.{ran_of}
 use Rattle.model.proofs.Accepted.{HeaderHolds, header_holds, gates_inside, outputs_inside}

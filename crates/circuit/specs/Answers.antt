@@ -90,7 +90,7 @@ abbrev pub bits_of : Bits → Verdict
 bits_of Bits.Fine = fine
 bits_of (Bits.Fault i) = Verdict.refused 10 i
 
--- 9, 10, 19 by a circuit's sizes: with the circuit's own before them, the model's `plainVerdict`, as `plain-verdict` of proofs/PlainLaws.antt shows
+-- 9, 10, 19 by a circuit's sizes: with the circuit's own before them, the model's `plain_verdict`, as `plain_verdict_law` of proofs/PlainLaws.antt shows
 unfoldable pub plain_arguments : Sizes → List ℕ → ℕ → Verdict
 plain_arguments z v room = values_verdict z.n v then room_verdict (z.n + z.q) room
 

@@ -1,5 +1,5 @@
 -- Examples of document 02, job 1, worked by hand. The theorem is `examples` of proofs/Examples.antt.
-use Rattle.std.specs.Prelude.{◌≡◌, List, [], ◌∷◌}
+use Rattle.std.specs.Prelude.{◌≡◌, [], ◌∷◌}
 use Rattle.model.specs.Refusals.{fine, refused}
 use Rattle.comparator.specs.Compares.{figures}
 use Rattle.comparator.specs.Comparator.{comparator_bytes, width_verdict, comparator_verdict}

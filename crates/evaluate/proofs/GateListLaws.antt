@@ -33,7 +33,7 @@ use Rattle.circuit.specs.declared.gates.GateRead.{GateRead}
 use Rattle.circuit.specs.Accepted.{Accepted}
 use Rattle.circuit.specs.Answers as Read
 use Rattle.circuit.specs.Answers.{gate_of}
-use Rattle.circuit.proofs.AcceptedLaws.{limits, is_n, is_m, is_q}
+use Rattle.circuit.proofs.AcceptedLaws.{limits, is_n, is_q}
 use Rattle.material.specs.declared.records.Cursor.{Cursor}
 use Rattle.material.specs.declared.records.Step.{Step}
 use Rattle.material.specs.Answers.{Filed, step_of, row_answer, records_verdict}

@@ -5,8 +5,8 @@ use native.Mathlib.Omega.{arith}
 use mathlib.Core.Path.{◌≡◌, refl, sym, ◌∙◌}
 use mathlib.Core.Bool.{Bool, true, false, not}
 use mathlib.Core.List.{List}
-use borrow.Author.Tests.{le-leb, lt-leb, lt-ltb, le-ltb, ltb-true, ltb-false, eq-eqb}
-use lib.Dec.{ltb, eqb}
+use borrow.Author.Tests.{le-leb, lt-leb, lt-ltb, le-ltb, ltb-true, ltb-false}
+use lib.Dec.{ltb}
 use lib.ListN.{length, get_or}
 use Rattle.model.specs.declared.Gate.{Gate}
 use Rattle.model.specs.declared.Evaluated.{Evaluated}
@@ -32,7 +32,7 @@ use Rattle.aes.specs.Lent.{Lent}
 use Rattle.evaluate.specs.GateList.{Ended, GoesTo, Begun, GateIs, Stands, Few, Tries, Checks, Writes, TryLeads, CheckLeads, WriteLeads}
 use Rattle.evaluate.proofs.RestLaws.{evaluate_verdict_law}
 use Rattle.evaluate.proofs.WalkLaws.{walk_few, walk_step, step_token, wires_walk}
-use Rattle.evaluate.proofs.GateListLaws.{neither, goes_0, refuses, accepted_by, wires}
+use Rattle.evaluate.proofs.GateListLaws.{goes_0, refuses, accepted_by, wires}
 
 -- ---- by the pass
 

@@ -1,5 +1,5 @@
 -- The refusals of evaluate, decode and output_tokens once the circuit is accepted. With the circuit's own before them they are the model's
--- `evaluateVerdict`, `decodeVerdict` and `outputTokensVerdict`, as `evaluate-verdict` and `decode-verdict` of proofs/RestLaws.antt and `output-verdict` of
+-- `evaluate_verdict`, `decode_verdict` and `output_tokens_verdict`, as `evaluate_verdict_law` and `decode_verdict_law` of proofs/RestLaws.antt and `output_verdict_law` of
 -- proofs/OutputLaws.antt show. Document 01, "Operations"; document 02, job 8.
 use Rattle.std.specs.Prelude.{ℕ, ◌+◌, ◌*◌, List}
 use Rattle.model.specs.declared.Sizes.{Sizes}

@@ -10,7 +10,7 @@ use mir.Val.{Fits}
 use Rattle.model.specs.declared.Sizes.{Sizes}
 use Rattle.model.specs.declared.Wanted.{Wanted}
 use Rattle.model.specs.Bytes.{over}
-use Rattle.model.specs.Circuit.{circuit_of, outputs, gates}
+use Rattle.model.specs.Circuit.{circuit_of, outputs}
 use Rattle.model.specs.Aes.{◌⊕◌}
 use Rattle.model.specs.Tokens.{wants_hashes, garbling_of, seed_block, offset, one_token, input_zeros}
 use Rattle.model.specs.Garbling.{zero_tokens}

@@ -13,7 +13,7 @@ use Rattle.model.specs.declared.Wanted.{Wanted}
 use Rattle.model.specs.declared.Ran.{Ran}
 use Rattle.model.specs.declared.Refusal.{Refusal}
 use Rattle.model.specs.Bytes.{over, equal_bytes}
-use Rattle.model.specs.Circuit.{charges, circuit_of, inputs, outputs, gates}
+use Rattle.model.specs.Circuit.{charges, circuit_of, inputs, outputs}
 use Rattle.model.specs.Aes.{Block}
 use Rattle.model.specs.Tokens.{Garbling, wants_hashes, garbling_of}
 use Rattle.model.specs.Garbling.{zero_tokens, input_ones}

@@ -12,7 +12,7 @@ use Rattle.model.specs.declared.Ran.{Ran}
 use Rattle.model.specs.Tokens.{wants_hashes}
 use Rattle.model.specs.Material.{last_bytes, material_length}
 use Rattle.model.specs.Refusals.{Verdict, fine, refused, ◌then◌, verdict_of, circuit_verdict, room_verdict}
-use Rattle.model.specs.Operations.{Answer, no, answer, sizes_of, checked_of, check_answer, ran_of, file_length, garble_verdict, Made, GarbleIs}
+use Rattle.model.specs.Operations.{Answer, no, sizes_of, checked_of, check_answer, ran_of, file_length, garble_verdict, Made, GarbleIs}
 use Rattle.model.proofs.Verdicts.{then_fine, then_refused, then_assoc, ran_refused, ran_done}
 use Rattle.model.proofs.Conditions.{seed_fine, scheme_fine, room_fine}
 use Rattle.circuit.specs.Accepted.{Accepted}

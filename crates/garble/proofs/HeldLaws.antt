@@ -1,11 +1,11 @@
 -- The seed's blocks that are held: which one is taken, and scheme 1's token for a gate. Assumes nothing.
-use Prim.Native.Nat.{ℕ, ◌+◌, ◌*◌, ◌≤◌, ◌<◌}
+use Prim.Native.Nat.{ℕ, ◌+◌}
 use native.Mathlib.Omega.{arith}
-use mathlib.Core.Path.{◌≡◌, sym, ap, ◌∙◌}
+use mathlib.Core.Path.{◌≡◌, ap, ◌∙◌}
 use mathlib.Core.List.{List}
 use Rattle.model.specs.declared.Gate.{Gate}
 use Rattle.model.specs.declared.Wanted.{Wanted}
-use Rattle.model.specs.Circuit.{charge, kind_of, gate_at, gate_wire}
+use Rattle.model.specs.Circuit.{charge, kind_of, gate_at}
 use Rattle.model.specs.Aes.{Block, key_expansion, cipher, aes}
 use Rattle.model.specs.Tokens.{run_block}
 use Rattle.block.specs.declared.Block as Struct

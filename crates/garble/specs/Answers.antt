@@ -1,5 +1,5 @@
--- The refusals of garble and encode by the sizes of an accepted circuit. With the circuit's own before them they are the model's `garbleVerdict`
--- and `encodeVerdict`, as `garble-verdict` of proofs/GarbleIsLaws.antt and `encode-verdict` of proofs/EncodeIsLaws.antt show.
+-- The refusals of garble and encode by the sizes of an accepted circuit. With the circuit's own before them they are the model's `garble_verdict`
+-- and `encode_verdict`, as `garble_verdict_law` of proofs/GarbleIsLaws.antt and `encode_verdict_law` of proofs/EncodeIsLaws.antt show.
 use Rattle.std.specs.Prelude.{ℕ, ◌+◌, ◌*◌, List}
 use Rattle.model.specs.declared.Sizes.{Sizes}
 use Rattle.model.specs.declared.Wanted.{Wanted}

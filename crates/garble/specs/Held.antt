@@ -1,5 +1,5 @@
 -- The seed's blocks, of which four are held at a time. Document 01, "Tokens"; 02, job 4.
-use Rattle.std.specs.Prelude.{ℕ, ◌+◌, ◌*◌, ◌≤◌, ◌<◌, ◌≡◌, List, length}
+use Rattle.std.specs.Prelude.{ℕ, ◌+◌, ◌*◌, ◌≤◌, ◌≡◌, List, length}
 use Rattle.model.specs.declared.Wanted.{Wanted}
 use Rattle.model.specs.Circuit.{charge, kind_of, gate_at, gate_wire}
 use Rattle.model.specs.Aes.{Block, key_expansion, aes}

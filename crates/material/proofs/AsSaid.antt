@@ -1,4 +1,4 @@
--- Conditions 12 to 18 written out over a circuit and the bytes of a material, with 01's own r = 4, 3, 2, and 2 for scheme 4: they are `materialVerdict`. Assumes nothing.
+-- Conditions 12 to 18 written out over a circuit and the bytes of a material, with 01's own r = 4, 3, 2, and 2 for scheme 4: they are `material_verdict`. Assumes nothing.
 use Prim.Native.Nat.{ℕ, ◌+◌, ◌*◌}
 use mathlib.Core.Path.{◌≡◌, refl}
 use mathlib.Core.Bool.{Bool, true, false, not, cond, ◌&&◌, ◌||◌}

@@ -7,7 +7,7 @@ use lib.ListN.{length, get_or}
 use Rattle.model.specs.declared.Sizes.{Sizes}
 use Rattle.model.specs.declared.Refusal.{Refusal}
 use Rattle.model.specs.declared.Ran.{Ran}
-use Rattle.model.specs.Circuit.{circuit_of, gates, charges}
+use Rattle.model.specs.Circuit.{circuit_of, charges}
 use Rattle.model.specs.Material.{last_start, last_bytes, hashed}
 use Rattle.model.specs.Refusals.{Verdict, fine, refused, ◌then◌, number_of, place_of, verdict_of, circuit_sizes, file_verdict, last_verdict, material_verdict}
 use Rattle.model.specs.Operations.{ran_of, sizes_of}

@@ -1,7 +1,7 @@
 -- Document 01, "Material": "A reader over the lent material goes from one marked record to the next and remembers how far it is." Where that leads in a
--- material that is well_formed for a circuit: from the first record to that of each charged gate in turn, to the last record, and to the end.
--- `foundRecord s at` is what `record_at` answers at a place of s: what stands there, and the place past it. Assumes nothing.
-use Prim.Native.Nat.{ℕ, zero, suc, ◌+◌, ◌-◌, ◌≤◌, ◌<◌}
+-- material that is well-formed for a circuit: from the first record to that of each charged gate in turn, to the last record, and to the end.
+-- `found_record s at` is what `record_at` answers at a place of s: what stands there, and the place past it. Assumes nothing.
+use Prim.Native.Nat.{ℕ, zero, suc, ◌+◌, ◌≤◌, ◌<◌}
 use native.Mathlib.Nat.{add-zero}
 use native.Mathlib.Numerals.{add-one}
 use native.Mathlib.Omega.{arith}

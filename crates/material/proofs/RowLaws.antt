@@ -4,7 +4,7 @@ use native.Mathlib.Omega.{arith}
 use mathlib.Core.Path.{◌≡◌, sym, ◌∙◌}
 use mathlib.Core.Bool.{Bool, true, false}
 use mathlib.Core.List.{List}
-use borrow.Author.Tests.{ltb-false, leb-true, eqb-true, not-false}
+use borrow.Author.Tests.{ltb-false, eqb-true, not-false}
 use lib.ListN.{length, get_or}
 use Rattle.model.specs.declared.Sizes.{Sizes}
 use Rattle.model.specs.Bytes.{tabulate}
@@ -13,12 +13,12 @@ use Rattle.model.specs.Scheme.{record_length}
 use Rattle.model.specs.Garbling.{Known, scheme_of}
 use Rattle.model.specs.Ending.{colours, hashes, ending_of}
 use Rattle.model.specs.Material.{last_start, last_bytes, material_length, hashed}
-use Rattle.model.specs.Refusals.{fine, scheme_verdict, file_verdict, row_start}
+use Rattle.model.specs.Refusals.{fine, file_verdict, row_start}
 use Rattle.model.specs.Operations.{sizes_of}
 use Rattle.model.proofs.Lists.{tabulate_take}
 use Rattle.model.proofs.Places.{length_last, start_first, start_next, record_fits}
 use Rattle.model.proofs.Conditions.{scheme_fine}
-use Rattle.model.proofs.Verdicts.{then_fine, refuse_fine, and_both}
+use Rattle.model.proofs.Verdicts.{then_fine, refuse_fine}
 use Rattle.material.specs.Answers.{Filed}
 
 -- the last record has a byte for each output at least

@@ -4,7 +4,7 @@ use mathlib.Core.Path.{◌≡◌, refl, ap}
 use mathlib.Core.List.{List}
 use lib.ListN.{length}
 use Rattle.model.specs.declared.Gate.{Gate}
-use Rattle.model.specs.Circuit.{circuit_of, inputs, outputs, gates, gate_at, code_at}
+use Rattle.model.specs.Circuit.{circuit_of, inputs, gates, gate_at, code_at}
 use Rattle.model.proofs.Lists.{tabulate_length, entry}
 
 -- ---- as many inputs and gates as the header says, and gate k at k

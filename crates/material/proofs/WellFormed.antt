@@ -1,4 +1,4 @@
--- What a well_formed material tells whoever works through it: none of 12 to 18 holds. With it go `row_first`, `row_next` and `row_room` of
+-- What a well-formed material tells whoever works through it: none of 12 to 18 holds. With it go `row_first`, `row_next` and `row_room` of
 -- proofs/RowLaws.antt, which say where each record starts, and that it lies inside. Assumes nothing.
 use Prim.Native.Nat.{ℕ, ◌+◌, ◌-◌, ◌≤◌, ◌<◌}
 use native.Mathlib.Omega.{arith}

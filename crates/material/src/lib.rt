@@ -57,7 +57,7 @@ pub fn material_length(scheme: u8, last: usize, p: usize) -> usize
     last_start(scheme, p) + 2 + last
 }
 
-// Whether a material is well_formed for an accepted circuit of these sizes, or the first of refusals 12 to 18.
+// Whether a material is well-formed for an accepted circuit of these sizes, or the first of refusals 12 to 18.
 pub fn check_material(circuit: &[u8], z: Sizes, material: &[u8]) -> Ran
     requires { Accepted circuit.now z }
     ensures { ran_of result ≡ material_verdict (circuit_of circuit.now) material.now }

@@ -1,7 +1,6 @@
 // A reader over the lent material (01, Material): it goes from one marked record to the next and remembers how far it is.
-// What it finds is worked out by functions of a slice and a place. A function that takes, makes or holds a `Reader` takes it
-// apart and calls one of those; its proof is a walk of its steps by hand, and above `first_record`, `found_at` and `record_at` nobody
-// needs one.
+// What it finds is worked out by functions of a slice and a place, `standing_at` and `past_at`, which its methods call. `first_record`,
+// `found_at` and `record_at` make a reader, and hand back what it finds and where it is then.
 ghost use Rattle.std.specs.Prelude.{◌≡◌, ◌+◌, ◌≤◌, length};
 ghost use Rattle.material.specs.Reader.{gate_standing, last_standing, standing_at, past_at, found_record};
 

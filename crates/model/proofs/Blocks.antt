@@ -1,4 +1,4 @@
--- Blocks one after the other in bytes: `joinBlocks`, `cut` and `tokenAt` undo one another. Assumes nothing.
+-- Blocks one after the other in bytes: `join_blocks`, `cut` and `token_at` undo one another. Assumes nothing.
 use Prim.Native.Nat.{ℕ, zero, suc, ◌+◌, ◌*◌, ◌-◌, ◌≤◌, ◌<◌}
 use native.Mathlib.Nat.{le_of_suc-le-suc, not-suc-le-zero, sub-zero, zero-sub, suc-sub-suc}
 use native.Mathlib.Omega.{arith}

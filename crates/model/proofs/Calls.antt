@@ -12,7 +12,7 @@ use lib.Bits.{differ}
 use lib.ListN.{length}
 use Rattle.model.specs.declared.Gate.{Gate}
 use Rattle.model.specs.declared.Wanted.{Wanted}
-use Rattle.model.specs.Circuit.{Kind, charged, free, refused, kind_of, charge, charges, circuit_of, outputs, wire, wires}
+use Rattle.model.specs.Circuit.{Kind, charged, free, refused, kind_of, charge, charges, circuit_of, wire, wires}
 use Rattle.model.specs.Aes.{Block, ◌⊕◌, block, aes, fixed_key, π}
 use Rattle.model.specs.Tokens.{Garbling, wants_hashes, colour, garbling_of, input_zeros}
 use Rattle.model.specs.Scheme.{Site, Scheme}

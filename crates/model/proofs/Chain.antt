@@ -6,7 +6,7 @@ use mathlib.Core.List.{List, [], ◌∷◌, ◌++◌, append_assoc, map}
 use lib.ListN.{length, get_or, length-append}
 use Rattle.model.specs.declared.Gate.{Gate}
 use Rattle.model.specs.Bytes.{from, tabulate}
-use Rattle.model.specs.Circuit.{kind_of, wire, wires, gate_value, plain_values}
+use Rattle.model.specs.Circuit.{kind_of, wires, gate_value, plain_values}
 use Rattle.model.specs.Aes.{Block, ◌⊕◌, block}
 use Rattle.model.specs.Tokens.{Garbling, offset, input_zeros, one_token}
 use Rattle.model.specs.Garbling.{scheme_of, site_of, zero_step, zero_tokens, input_ones}

@@ -6,7 +6,7 @@ use Prim.Native.Nat.{ℕ, zero, suc, ◌+◌, ◌-◌, ◌*◌, ◌/◌, ◌%◌
 use native.Mathlib.Nat.{eq-or-lt_of_le}
 use native.Mathlib.Omega.{arith}
 use borrow.Author.Tests.{eq-eqb, ne_eqb}
-use lib.ListN.{length, get_or, take, drop, length-append}
+use lib.ListN.{length, take, length-append}
 use lib.Seq.{get_or-take, length-take-le, take_all, take-add, take_at, take-take, drop_at}
 use Rattle.model.specs.Aes.{Block, word, xor_word, rot_word, sub_word, rcon, temp, next_word, IsExpansion, expand_by, key_expansion}
 use Rattle.model.proofs.Lists.{part}

@@ -205,7 +205,7 @@ values_same (g ∷ gs) vs h b =
 
 -- ---- zero tokens and records
 
--- what is the same in half_gates, over the scheme's hash, is the same in all schemes
+-- what is the same in half-gates, over the scheme's hash, is the same in all schemes
 by_scheme : (K : ℕ → Kind) {A : Type 0} (f : Scheme → A) (k : ℕ) → f (half_by K (hash_of k)) ≡ f (half (hash_of k)) → f (scheme_by K k) ≡ f (scheme_of k)
 unfolding scheme_by scheme_of
 by_scheme K f k e = go (eqb k 1) (eqb k 2)
@@ -334,7 +334,7 @@ unfolding open_gates open_gates_by open_step open_step_by
 opened_same S [] bs ts h = refl
 opened_same S (g ∷ gs) bs ts h = rw (same_kind g.code h.0) (opened_same S gs _ _ h.1)
 
--- evaluation in half_gates does not ask for α, β and γ
+-- evaluation in half-gates does not ask for α, β and γ
 open_half : (H : Block → ℕ → Block) (k : Kind) (g : ℕ) (bs : List ℕ) (A B : Block) → open_at (half_by kind01 H) k g bs A B ≡ open_at (half H) k g bs A B
 unfolding open_at half_by half
 open_half H (charged u v x) g bs A B = refl

@@ -1,6 +1,6 @@
 -- Everything that a scheme lists of its cipher or its hash is needed: of each entry there are two ciphers, or two hashes, that agree on all that is
 -- listed but that one, and do not give the same. So the lists are the shortest of which `UsesOnly` holds. Assumes nothing.
-use Prim.Native.Nat.{ℕ, ◌+◌, ◌*◌, ◌-◌, ◌≤◌}
+use Prim.Native.Nat.{ℕ, ◌+◌, ◌*◌, ◌≤◌}
 use native.Mathlib.Omega.{arith}
 use mathlib.Core.Path.{◌≡◌, refl, sym, ap, ◌∙◌}
 use mathlib.Core.Logic.{◌⊎◌, inl, inr}

@@ -1,12 +1,12 @@
 -- A circuit of another mark than 43 49 is refused as it was, and is the circuit that it was. Assumes nothing.
-use Prim.Native.Nat.{ℕ, ◌-◌}
+use Prim.Native.Nat.{ℕ}
 use mathlib.Core.Path.{◌≡◌, refl}
 use mathlib.Core.Bool.{false}
 use mathlib.Core.List.{List}
 use borrow.Author.Tests.{eqb-true, not-false}
 use lib.ListN.{get_or}
 use Rattle.model.specs.Circuit.{circuit_of, kind_of, mark_at, inputs, gates, named, most_outputs, sizes_hold, circuit_length}
-use Rattle.model.specs.Refusals.{fine, refused, ◌then◌, head_verdict, gate_verdict, record_verdict, outputs_verdict, circuit_verdict}
+use Rattle.model.specs.Refusals.{fine, head_verdict, gate_verdict, record_verdict, outputs_verdict, circuit_verdict}
 use Rattle.model.specs.Kept.{sizes_hold01, head_verdict01, gate_verdict_by, record_verdict_by, circuit_verdict_by, OldMark}
 use Rattle.model.proofs.Accepted.{accepted_header}
 use Rattle.model.proofs.Outputs as O

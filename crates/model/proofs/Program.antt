@@ -1,4 +1,4 @@
--- Laws of `programText`: its two cases, 01's examples of it, and that the program need not read more than 65,537 bytes. Assumes nothing.
+-- Laws of `program_text`: its two cases, 01's examples of it, and that the program need not read more than 65,537 bytes. Assumes nothing.
 use Prim.Native.Nat.{ℕ, ◌≤◌, ◌<◌}
 use native.Mathlib.Omega.{arith}
 use mathlib.Core.Path.{◌≡◌, refl, ap, sym, ◌∙◌}

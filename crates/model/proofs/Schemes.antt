@@ -42,7 +42,7 @@ cond_sound : (b : Bool) (S D : Scheme) → Sound S → Sound D → Sound (cond b
 cond_sound true S D s d = s
 cond_sound false S D s d = d
 
--- one line for each scheme, and one for the two of half_gates
+-- one line for each scheme, and one for the two of half-gates
 pub scheme_sound : (k : ℕ) → Sound (scheme_of k)
 unfolding scheme_of
 scheme_sound k =

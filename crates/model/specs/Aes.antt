@@ -14,7 +14,7 @@ infixr 60 ◌⊕◌
 unfoldable pub ◌⊕◌ : Block → Block → Block
 ◌⊕◌ a b = tabulate 16 (λ i. bit_xor (get_or a i 0) (get_or b i 0))
 
--- "A number used as a block is its 16-byte big_endian form."
+-- "A number used as a block is its 16-byte big-endian form."
 unfoldable pub block : ℕ → Block
 block k = bytes_of 16 k
 
@@ -25,7 +25,7 @@ times (suc b) x = x
 
 -- ---- GF(2^8), §4: bytes as polynomials modulo hex 11B
 
--- the byte times x (§4.2): shifted left, and hex 11B exclusive_ored in if bit 8 is then set
+-- the byte times x (§4.2): shifted left, and hex 11B exclusive-ored in if bit 8 is then set
 unfoldable pub xtime : ℕ → ℕ
 xtime b = bit_xor (b * 2) (b / 128 * 0x11B)
 
@@ -42,7 +42,7 @@ unfoldable pub squares : ℕ → ℕ → ℕ
 squares zero a = 1
 squares (suc n) a = let s = gmul a a in gmul s (squares n s)
 
--- the inverse: a^254 (§4.4), which takes 0 to 0. That it is the inverse is the law `inverse-undoes` of proofs/Field.antt.
+-- the inverse: a^254 (§4.4), which takes 0 to 0. That it is the inverse is the law `inverse_undoes` of proofs/Field.antt.
 unfoldable pub inverse : ℕ → ℕ
 inverse a = squares 7 a
 
@@ -121,11 +121,11 @@ power_of_x (suc k) = xtime (power_of_x k)
 abbrev pub rcon : ℕ → List ℕ
 rcon j = power_of_x (j - 1) ∷ 0 ∷ 0 ∷ 0 ∷ []
 
--- "temp ← w[i_1]", here a; "if i mod Nk = 0 then temp ← SubWord(RotWord(temp)) ⊕ Rcon[i/Nk]". What else is done for Nk > 6 does not arise.
+-- "temp ← w[i-1]", here a; "if i mod Nk = 0 then temp ← SubWord(RotWord(temp)) ⊕ Rcon[i/Nk]". What else is done for Nk > 6 does not arise.
 unfoldable pub temp : ℕ → List ℕ → List ℕ
 temp i a = cond (eqb (i % 4) 0) (xor_word (sub_word (rot_word a)) (rcon (i / 4))) a
 
--- "w[i_Nk] ⊕ temp"
+-- "w[i-Nk] ⊕ temp"
 unfoldable pub next_word : List ℕ → ℕ → List ℕ
 next_word w i = xor_word (word w (i - 4)) (temp i (word w (i - 1)))
 
@@ -134,7 +134,7 @@ pub record IsExpansion (key : Block) (w : List ℕ) : Type 0 where
   pub words : length w ≡ 4 * 44
   -- "w[i] ← key[4*i..4*i+3]", for i up to Nk - 1
   pub from_key : (i : ℕ) → i < 4 → word w i ≡ word key i
-  -- "w[i] ← w[i_Nk] ⊕ temp", for i from Nk up to 4 * Nr + 3
+  -- "w[i] ← w[i-Nk] ⊕ temp", for i from Nk up to 4 * Nr + 3
   pub from_words : (i : ℕ) → 4 ≤ i → i < 44 → word w i ≡ next_word w i
 
 -- the key, and the k words after it
@@ -142,7 +142,7 @@ unfoldable pub expand_by : ℕ → Block → List ℕ
 expand_by zero key = key
 expand_by (suc k) key = let w = expand_by k key in w ++ next_word w (4 + k)
 
--- the schedule of a key, computed. Of a key of 16 bytes IsExpansion holds for this list and for no other: the law `expansion-exactly` of
+-- the schedule of a key, computed. Of a key of 16 bytes IsExpansion holds for this list and for no other: the law `expansion_exactly` of
 -- proofs/Expansion.antt.
 unfoldable pub key_expansion : Block → List ℕ
 key_expansion key = expand_by 40 key
@@ -175,7 +175,7 @@ unfoldable pub π : Block → Block
 
 -- ---- doubling
 
--- 2A: "shifted left by one bit as one 128-bit number, with hex 87 exclusive_ored into the last byte exactly if the bit shifted out was 1"
+-- 2A: "shifted left by one bit as one 128-bit number, with hex 87 exclusive-ored into the last byte exactly if the bit shifted out was 1"
 -- (source 000, Fig. 6, D1)
 unfoldable pub double : Block → Block
 double a = block (number a * 2) ⊕ times (number a / 2 ^ 127) (block 0x87)

@@ -1,4 +1,4 @@
--- Lists and numbers that every section uses. Document 01, "The product's edges": numbers in files are big_endian.
+-- Lists and numbers that every section uses. Document 01, "The product's edges": numbers in files are big-endian.
 use Rattle.std.specs.Prelude.{ℕ, zero, suc, ◌+◌, ◌*◌, ◌/◌, ◌%◌, ◌^◌, List, [], ◌∷◌, ◌++◌, Bool, true, false, ◌&&◌, eqb, length, get_or, take, drop}
 
 -- f i, f (i + 1), .., n of them

@@ -10,7 +10,7 @@ unfoldable pub digits : ℕ → ℕ → List ℕ
 digits zero x = []
 digits (suc k) x = cond (ltb x 10) (digit x ∷ []) (digits k (x / 10) ++ (digit (x % 10) ∷ []))
 
--- The tens of a number from 10 on are fewer than it is, so x + 1 times are enough: `decimal-low` and `decimal-high` of proofs/Decimal.antt
--- have the two sentences above of every x and no bound, and `decimal-is` there that it reads back as x.
+-- The tens of a number from 10 on are fewer than it is, so x + 1 times are enough: `decimal_low` and `decimal_high` of proofs/Decimal.antt
+-- have the two sentences above of every x and no bound, and `decimal_is` there that it reads back as x.
 unfoldable pub decimal : ℕ → List ℕ
 decimal x = digits (suc x) x

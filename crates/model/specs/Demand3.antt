@@ -55,7 +55,7 @@ module _ (c seed : List ℕ) (want : Wanted) (values : List ℕ) where
   unfoldable pub distance_at : ℕ → Block
   distance_at w = distance (token_at chain_tokens w) (token_at chain_zeros w)
 
-  -- "is the all_zero block exactly when the plain circuit carries 0 there, and the seed's offset R exactly when it carries 1.
+  -- "is the all-zero block exactly when the plain circuit carries 0 there, and the seed's offset R exactly when it carries 1.
   -- Decoding the tokens that evaluation left on the outputs, with the same material, gives exactly the bits that the plain
   -- circuit carries there, in the order of the outputs." "the tokens' distance is R of that run" (02, job 4)
   pub record Demand3 : Type 0 where

@@ -15,7 +15,7 @@ pub record Known (scheme : ℕ) : Type 0 where
   pub low : 1 ≤ scheme
   pub high : scheme ≤ 4
 
--- scheme 1, 2, 3 or 4: the last two are half_gates, each over its hash
+-- scheme 1, 2, 3 or 4: the last two are half-gates, each over its hash
 unfoldable pub scheme_of : ℕ → Scheme
 scheme_of k = cond (eqb k 1) (gax dual_key) (cond (eqb k 2) (gaxr dual_key) (half (hash_of k)))
 

@@ -1,4 +1,4 @@
--- Document 01, "Scheme 3, half_gates", over any tweakable hash H; "Scheme 4 has scheme 3's steps and rows" (02, job 7). The steps are those of Zahur,
+-- Document 01, "Scheme 3, half-gates", over any tweakable hash H; "Scheme 4 has scheme 3's steps and rows" (02, job 7). The steps are those of Zahur,
 -- Rosulek and Evans (2015).
 use Rattle.std.specs.Prelude.{ℕ, ◌+◌, ◌-◌, ◌*◌, [], ◌∷◌, get_or}
 use Rattle.model.specs.Circuit.{Kind, charged, free, refused, kind_of}

@@ -1,4 +1,4 @@
--- The two hashes of half-gates: that of document 01, "Scheme 3, half_gates", and the newer one of document 02, job 7. Each takes a token x and a
+-- The two hashes of half-gates: that of document 01, "Scheme 3, half-gates", and the newer one of document 02, job 7. Each takes a token x and a
 -- tweak i, and makes one encryption.
 use Rattle.std.specs.Prelude.{ℕ, ◌+◌, cond, ◌++◌, eqb, get_or, take}
 use Rattle.std.specs.Int.Bits.{bit_xor}
@@ -25,7 +25,7 @@ hash_call x i = record { key = fixed_key; input = hash_block x i }
 unfoldable pub hash : Block → ℕ → Block
 hash x i = answered (hash_call x i)
 
--- ---- scheme 4: "H(x,i) = AES under key i of σ(x), ⊕ σ(x)" (02, job 7; source 002, §4.2), re_keyed with each tweak
+-- ---- scheme 4: "H(x,i) = AES under key i of σ(x), ⊕ σ(x)" (02, job 7; source 002, §4.2), re-keyed with each tweak
 
 -- "σ of left and right 8-byte halves is (left ⊕ right, left)"
 unfoldable pub sigma : Block → Block

@@ -211,7 +211,7 @@ module _ (K : ℕ → Kind) where
   unfoldable pub evaluate_by : Circuit → List Block → List ℕ → List Block
   evaluate_by c ts s = open_gates_by (scheme_by (get_or s 2 0)) c.gates (drop 9 s) ts
 
--- A circuit c that 01 accepts, `circuitVerdictBy kind01 c ≡ fine`, is accepted, and gets what 01's table gives: p, and with it every length and
+-- A circuit c that 01 accepts, `circuit_verdict_by kind01 c ≡ fine`, is accepted, and gets what 01's table gives: p, and with it every length and
 -- every count of calls; the value of each wire; the zero tokens and the material of every garbling of it; what refuses any material, and the tokens
 -- evaluated over it.
 pub record SameBytes (c : List ℕ) : Type 0 where
@@ -238,7 +238,7 @@ pub record RunZero (K : ℕ → Kind) (γ : Garbling) : Type 0 where
   pub ones : input_ones γ ≡ input_ones_by (seed_block01 γ) γ
   pub rows : γ.hashed ≡ false → material γ ≡ material_by K (seed_block01 γ) γ
 
--- ==== Job 7, the newer half_gates hash
+-- ==== Job 7, the newer half-gates hash
 
 -- ---- "others stay with the old hash": 01's own words of H, of the scheme of a scheme byte, and of 14
 

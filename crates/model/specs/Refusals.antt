@@ -192,7 +192,7 @@ scheme_verdict scheme = refuse (not (leb 1 scheme && leb scheme 4)) 14 scheme
 unfoldable pub mark_verdict : ℕ → Verdict
 mark_verdict mark = refuse (not (eqb mark 0x4748 || eqb mark 0x474A)) 13 0
 
--- ---- 12 to 18: the material s, for a circuit. "Material is well_formed for a circuit if none of conditions 12 to 18 holds."
+-- ---- 12 to 18: the material s, for a circuit. "Material is well-formed for a circuit if none of conditions 12 to 18 holds."
 
 -- n, m, q and p of a circuit
 unfoldable pub circuit_sizes : Circuit → Sizes

@@ -40,7 +40,7 @@ unfoldable pub distance : Block → Block → Block
 distance s t = s ⊕ t
 
 -- "The block enciphered under the seed becomes the run number in the first 8 bytes and the wire number (0 for R) in the last 8, both
--- big_endian." (02, job 4)
+-- big-endian." (02, job 4)
 unfoldable pub run_block : ℕ → ℕ → Block
 run_block run i = bytes_of 8 run ++ bytes_of 8 i
 

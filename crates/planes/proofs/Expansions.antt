@@ -1,4 +1,4 @@
--- SubWord by look_ups, in packed words. Assumes nothing.
+-- SubWord by look-ups, in packed words. Assumes nothing.
 use mathlib.Core.Path.{◌≡◌, ap, ◌∙◌}
 use Prim.Native.Nat.{ℕ, ◌+◌, ◌*◌, ◌/◌, ◌%◌, ◌^◌, ◌<◌}
 use Rattle.model.specs.Aes.{s_box, sub_word}

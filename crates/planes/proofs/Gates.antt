@@ -1,7 +1,7 @@
 -- A circuit on words is the circuit on bits, in every lane; so SubBytes on planes is the S-box in every lane, but for hex 63. Assumes nothing.
 use mathlib.Core.Path.{◌≡◌, refl, sym, ap, ap₂, ◌∙◌}
 use mathlib.Core.List.{List, [], ◌∷◌}
-use Prim.Native.Nat.{ℕ, ◌-◌, ◌<◌}
+use Prim.Native.Nat.{ℕ, ◌<◌}
 use lib.Bits.{bit_xor, bit_and}
 use lib.ListN.{get_or, get_or-map}
 use Rattle.model.specs.Aes.{xtime, mul_bits, gmul, squares, inverse, bit, affine_bit, affine_bits, s_box}

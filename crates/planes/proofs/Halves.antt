@@ -2,7 +2,7 @@
 use mathlib.Core.Path.{◌≡◌, refl, sym, ap, ap₂, ◌∙◌}
 use mathlib.Core.Bool.{Bool, true, false, cond}
 use mathlib.Core.List.{List, [], ◌∷◌, ◌++◌}
-use Prim.Native.Nat.{ℕ, zero, suc, ◌+◌, ◌*◌, ◌-◌, ◌/◌, ◌%◌, ◌^◌, ◌<◌}
+use Prim.Native.Nat.{ℕ, zero, suc, ◌+◌, ◌*◌, ◌/◌, ◌%◌, ◌^◌, ◌<◌}
 use native.Mathlib.Omega.{arith}
 use native.Mathlib.Nat.{mod-lt, zero-lt-suc}
 use lib.Dec.{eqb}
@@ -124,7 +124,7 @@ byte_xor x y j = ap (λ (n : ℕ). n % 256) (xor_shr x y (8 * j)) ∙ xor_mod (x
 byte_and : (x y j : ℕ) → byte_of (bit_and x y) j ≡ bit_and (byte_of x j) (byte_of y j)
 byte_and x y j = ap (λ (n : ℕ). n % 256) (and_shr x y (8 * j)) ∙ and_mod (x / 2 ^ (8 * j)) (y / 2 ^ (8 * j)) 8
 
--- a has the bytes of x and y that differ exclusive_ored into those of its bytes for which the mask has 255
+-- a has the bytes of x and y that differ exclusive-ored into those of its bytes for which the mask has 255
 module _ (mask a x y j : ℕ) where
   stays : byte_of mask j ≡ 0 → byte_of (bit_xor a (bit_and (bit_xor x y) mask)) j ≡ byte_of a j
   stays e =

@@ -1,6 +1,6 @@
 -- Words shifted, bit by bit. Assumes nothing.
 use mathlib.Core.Path.{◌≡◌, sym, ap, ap₂, ◌∙◌}
-use Prim.Native.Nat.{ℕ, zero, suc, ◌+◌, ◌*◌, ◌-◌, ◌/◌, ◌%◌, ◌^◌, ◌<◌}
+use Prim.Native.Nat.{ℕ, zero, suc, ◌+◌, ◌*◌, ◌/◌, ◌%◌, ◌^◌, ◌<◌}
 use native.Mathlib.Omega.{arith}
 use native.Mathlib.Nat.{div-div-eq-div-mul, div-eq_of_lt, mul-div-mul_left, mul-div_cancel, mul-mod_left, mul_assoc, mul_comm, pow-suc}
 use lib.Pow.{pow-add, pow_pos}

@@ -1,6 +1,5 @@
 -- A law for each part of a gate: what its pieces are makes it what the scheme defines. Assumes nothing.
 use Prim.Native.Nat.{ℕ, ◌+◌, ◌*◌, ◌-◌}
-use native.Mathlib.Omega.{arith}
 use mathlib.Core.Path.{◌≡◌, refl, sym, ap, ◌∙◌}
 use mathlib.Core.List.{List}
 use borrow.Author.Tests.{ne_eqb}
@@ -153,7 +152,7 @@ pub join_is : (ha hb G E A B x u v w y z : Block) (s t : ℕ) → x ≡ ha ⊕ u
     → y ≡ times t z → z ≡ E ⊕ A → t ≡ colour B → x ≡ ha ⊕ times (colour A) G ⊕ hb ⊕ times (colour B) (E ⊕ A)
 join_is ha hb G E A B x u v w y z s t is_x is_u is_v is_s is_w is_y is_z is_t = rw (is_x, is_u, is_v, is_s, is_w, is_y, is_z, is_t)
 
--- the token of a half_gate, from the two hashes
+-- the token of a half-gate, from the two hashes
 pub joined_is : (H : Block → ℕ → Block) (g : ℕ) (G E A B ha hb x : Block) → x ≡ ha ⊕ times (colour A) G ⊕ hb ⊕ times (colour B) (E ⊕ A)
     → ha ≡ H A (2 * g) → hb ≡ H B (2 * g + 1) → x ≡ joined H g G E A B
 unfolding joined

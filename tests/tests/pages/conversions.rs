@@ -118,21 +118,24 @@ fn functions(tree: &Tree, holds: impl Fn(&str) -> bool) -> BTreeSet<String> {
     found
 }
 
-/// A function's lines after its contract, without comments; none of a definition that is no function.
+/// A function's lines after its contract, without comments; none of a definition that is no function. A function
+/// without a contract has its bracket at the end of a line.
 fn body(text: &str) -> Option<String> {
     let first = text.lines().next()?;
     if !first.contains("fn ") {
         return None;
     }
-    let open = |line: &&str| line.trim() != "{";
-    let lines = text.lines().skip_while(open);
+    let own =
+        |line: &str| line.len() - line.trim_start().len() == first.len() - first.trim_start().len();
+    let open = |line: &&str| !(own(line) && line.ends_with('{'));
+    let lines = text.lines().skip_while(open).skip(1);
     let code = lines.filter(|line| !line.trim_start().starts_with("//"));
     Some(code.collect::<Vec<_>>().join("\n"))
 }
 
 #[test]
 fn conversions() {
-    let code = "// a Wire(0)\npub fn read(n: u16) -> Wire\n    ensures { λ r. ⌜ r .0 ≡ n ⌝ }\n{\n    Wire(n)\n}\n\npub fn place(w: Wire) -> usize\n    ensures { x }\n{\n    PickWire(w);\n    w.0 as usize\n}\n";
+    let code = "// a Wire(0)\npub fn read(n: u16) -> Wire\n    ensures { result.0 ≡ n }\n{\n    Wire(n)\n}\n\npub fn place(w: Wire) -> usize\n    requires low { 1 ≤ w.0 }\n    requires high { w.0 ≤ 9 }\n    ensures { result ≡ w.0 }\n{\n    PickWire(w);\n    w.0 as usize\n}\n";
     let table = "| Type | Made of a number | Made a number |\n|---|---|---|\n| `Wire` | of n: `read` of `crates/a` | a place: `place` |\n";
     let count = |page: &str, code: &str| {
         let tree = Tree::made(&[("A.md", page), ("crates/a/src/lib.rt", code)]);
@@ -141,6 +144,8 @@ fn conversions() {
     assert_eq!(count(table, code), 0);
     assert_eq!(count(&table.replace("`read`", "`reed`"), code), 2);
     assert_eq!(count(&table.replace("`place`", ""), code), 1);
-    assert_eq!(count(table, &code.replace("w.0", "0")), 1);
+    assert_eq!(count(table, &code.replace("w.0 as", "0 as")), 1);
+    let without = code.replace("\n    ensures { result.0 ≡ n }\n{\n", " {\n");
+    assert_eq!((count(table, &without), count("", &without)), (0, 2));
     assert_eq!(count("", code), 2);
 }

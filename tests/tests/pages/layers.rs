@@ -61,8 +61,7 @@ fn uses(text: &str, other: &str) -> bool {
         let before = text[..at].chars().next_back();
         !before.is_some_and(|c| c.is_alphanumeric() || c == '_')
     };
-    let modules = [format!("Rattle·{other}."), format!("Rattle·{other}·")];
-    text.match_indices(&path).any(begins) || modules.iter().any(|module| text.contains(module))
+    text.match_indices(&path).any(begins) || text.contains(&format!("Rattle.{other}."))
 }
 
 /// Each crate that a line of crates.txt names is used.
@@ -177,7 +176,7 @@ fn crates_that_are_not_used() {
         unused_faults(&Tree::made(&files)).len()
     };
     assert_eq!(count("use model::Wire;"), 0);
-    assert_eq!(count("ghost use Rattle·model.specs.Bytes.{be16};"), 0);
+    assert_eq!(count("ghost use Rattle.model.specs.Bytes.{be16};"), 0);
     assert_eq!(count("use supermodel::Wire; // model"), 1);
-    assert_eq!(count("ghost use Rattle·models.specs;"), 1);
+    assert_eq!(count("ghost use Rattle.models.specs.Bytes.{be16};"), 1);
 }

@@ -32,7 +32,7 @@ const ENDINGS: [&str; 12] = [
 
 /// What stands in backquotes and is no name: words of the language, of the tools and of other pages, commands
 /// and what they print.
-const NO_NAMES: [&str; 25] = [
+const NO_NAMES: [&str; 26] = [
     // types and words of the language
     "requires",
     "u16",
@@ -43,7 +43,8 @@ const NO_NAMES: [&str; 25] = [
     "crates/X",
     "crates/X/must-fail",
     "crates/X/proofs",
-    "proofs/x/f/Proof.antt",
+    "proofs/x/f/Answers.antt",
+    "proofs/x/f/Invariants.antt",
     "src/x.rt",
     "tests/wrong/X",
     "tests/wrong/X/y.edit",
@@ -529,15 +530,15 @@ fn is_joiner(words: &str) -> bool {
 
 /// A small repository, whose page A.md is right.
 #[cfg(test)]
-const FILES: [(&str, &str); 11] = [
+const FILES: [(&str, &str); 12] = [
     ("A.md", "\
 The contract of `run` in `crates/a` is `RunIs` in `M/Model.antt`.
 
 | 01 | Definition | Contract |
 |---|---|---|
 | one | `M/Model.antt`, `half`, its `stored` and `rows` | `crates/a`, `run`, no `requires`; must-fail `a/wrong`; refused type `a/kind` |
-| two | `size` of `Sizes`; `other-law` of `P/Laws.antt` | `Kind::Free`, `a::run`, `a::inner::deep`; `tester` over `cases-one` and `*-two` |
-| three | `half`, `size` | `deep` of `crates/a/src/inner.rt`; `deep` there; `lib.rt`; laws `law-a`, `law-b` of `P/Laws.antt`; `Laws` in `P/` |
+| two | `size` of `Sizes`; `other_law` of `P/Laws.antt` | `Kind::Free`, `a::run`, `a::inner::deep`; `tester` over `cases-one` and `*-two` |
+| three | `half`, `size` | `deep` of `crates/a/src/inner.rt`; `deep` there; `lib.rt`; laws `law_a`, `law_b` of `P/Laws.antt`; `Laws` in `P/`; `returns-in-Done` of `crates/a/proofs/run/Answers.antt` |
 
 ## Another table
 
@@ -547,7 +548,8 @@ The contract of `run` in `crates/a` is `RunIs` in `M/Model.antt`.
 "),
     ("crates.txt", "model:\na: model\ntester: a\n"),
     ("crates/model/specs/Model.antt", "pub half : Scheme\nhalf = record { stored = 2; rows = 3 }\n\npub record Sizes : Type 0 where\n  pub size : ℕ\n\npub record RunIs : Type 0 where\n"),
-    ("crates/model/proofs/Laws.antt", "law-a law-b : A\nother-law : B\nother-law = half\n"),
+    ("crates/model/proofs/Laws.antt", "law_a law_b : A\nother_law : B\nother_law = half\n"),
+    ("crates/a/proofs/run/Answers.antt", "use Rattle.a.proofs.run.Goals as goal\n\npub returns-in-Done : goal.returns-in-Done\nreturns-in-Done c = search law_a\n"),
     ("crates/a/src/lib.rt", "pub fn run() {\n    deep()\n}\n\npub enum Kind {\n    Free,\n}\n"),
     ("crates/a/src/inner.rt", "fn deep() {\n}\n"),
     ("crates/tester/src/main.rt", "fn main() {\n}\n"),
@@ -589,7 +591,7 @@ fn each_fault_is_found() {
         (5, "`a/wrong`", "`a/wrung`"),
         (5, "`a/kind`", "`a/wrong`"),
         (6, "`size` of", "`half` of"),
-        (6, "`other-law`", "`law`"),
+        (6, "`other_law`", "`law`"),
         (6, "`Kind::Free`", "`Kind::Charged`"),
         (6, "`a::run`", "`a::deeper`"),
         (6, "`a::inner::deep`", "`a::inner::run`"),
@@ -597,8 +599,9 @@ fn each_fault_is_found() {
         (7, "`lib.rt`", "`lab.rt`"),
         (7, "`deep` of", "`run` of"),
         (7, "`deep` there", "`run` there"),
-        (7, "`law-a`, ", "`other`, "),
+        (7, "`law_a`, ", "`other`, "),
         (7, "`Laws` in", "`Flaws` in"),
+        (7, "`returns-in-Done`", "`returns-in`"),
         (13, "`..Is`", "`..As`"),
         // a name that stands in the tree, but not in what its column of its table names
         (13, "every `..Is` of `M/Model.antt`", "`half`"),
@@ -618,8 +621,13 @@ fn each_fault_is_found() {
         ("crates/model/specs/Model.antt", "pub size", "pub length"),
         (
             "crates/model/proofs/Laws.antt",
-            "other-law : B",
-            "another-law : B",
+            "other_law : B",
+            "another_law : B",
+        ),
+        (
+            "crates/a/proofs/run/Answers.antt",
+            "pub returns-in-Done :",
+            "pub returns-in-Fault :",
         ),
         ("crates.txt", "\na: model", "\nb: model"),
     ] {

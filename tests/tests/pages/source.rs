@@ -232,29 +232,42 @@ pub fn has_word(text: &str, word: &str) -> bool {
 
 #[test]
 fn logic() {
-    let text = "pub record Sizes (c : ℕ) : Type 0 where\n  -- n\n  pub n : ℕ\n\n  pub m q : ℕ\n\n-- free-sound comes after it\nunfoldable pub half : Scheme\nhalf = record {\n  stored = 2;\n}\nfree-sound : A → B\nfree-sound a =\n    let e : C = d in\n    (f : D)\n";
+    let text = "pub record Sizes (c : ℕ) : Type 0 where\n  -- n\n  pub n : ℕ\n\n  pub m q : ℕ\n\n-- free_sound comes after it\nunfoldable pub half : Scheme\nhalf = record {\n  stored = 2;\n}\nfree_sound : A → B\nfree_sound a =\n    let e : C = d in\n    (f : D)\n";
     let source = Source::of("A.antt", text);
-    for name in ["Sizes", "n", "m", "q", "half", "free-sound"] {
+    for name in ["Sizes", "n", "m", "q", "half", "free_sound"] {
         assert!(source.defines(name), "{name}");
     }
     for name in ["c", "e", "f", "free", "sound", "stored", "Scheme"] {
         assert!(!source.defines(name), "{name}");
     }
     assert!(source.has_part("Sizes", "q") && source.has_part("half", "stored"));
-    assert!(!source.has_part("half", "free-sound") && !source.has_part("half", "store"));
+    assert!(!source.has_part("half", "free_sound") && !source.has_part("half", "store"));
     assert!(source.defines_ending("izes"));
+    let text = "use Rattle.a.specs.Pick.{PickIs}\nuse Rattle.a.proofs.pick.Goals as goal\n\npub returns-in-Done : goal.returns-in-Done\nreturns-in-Done c = search part\n\nabbrev pub invariant-loop-i : goal.invariant-loop-i\ninvariant-loop-i l = record { low : 1 ≤ l.i; high : l.i ≤ l.n }\n";
+    let source = Source::of("Answers.antt", text);
+    for name in ["returns-in-Done", "invariant-loop-i"] {
+        assert!(source.defines(name), "{name}");
+    }
+    for name in ["returns", "goal", "low", "high", "PickIs", "use"] {
+        assert!(!source.defines(name), "{name}");
+    }
+    assert!(
+        source.has_part("returns-in-Done", "part") && !source.has_part("returns-in-Done", "low")
+    );
 }
 
 #[test]
 fn code() {
-    let text = "pub enum Kind {\n    Charged(Truth),\n    Free { p: Truth },\n    Refused,\n}\n\npub struct Reader<'a> {\n    pub at: usize,\n}\n\nimpl<'a> Reader<'a> {\n    pub fn first(m: &'a [u8]) -> Reader<'a> {\n        other(m)\n    }\n}\n\npub extern \"C\" fn pick<'a>(a: u8) {\n    load(a)\n}\n";
+    let text = "ghost use Rattle.std.specs.Prelude.{◌≡◌, length};\nghost use Rattle.a.specs.Pick.{PickIs};\n\n#[derive(Clone, Copy)]\npub enum Kind {\n    Charged(Truth),\n    Free { p: Truth },\n    Refused,\n}\n\npub struct Reader<'a> {\n    pub at: usize,\n}\n\nimpl<'a> Reader<'a> {\n    pub fn first(m: &'a [u8]) -> Reader<'a>\n        requires low { 1 ≤ length m.now }\n        ensures { result.at ≡ 9 }\n    {\n        other(m)\n    }\n}\n\n#[unsafe(no_mangle)]\npub extern \"C\" fn pick<'a>(a: u8)\n    requires low { 1 ≤ a }\n    ensures high { PickIs a }\n{\n    load(a)\n}\n";
     let source = Source::of("a.rt", text);
     for name in [
         "Kind", "Charged", "Free", "Refused", "Reader", "at", "first", "pick",
     ] {
         assert!(source.defines(name), "{name}");
     }
-    for name in ["Truth", "other", "load", "a", "m"] {
+    for name in [
+        "Truth", "other", "load", "a", "m", "low", "high", "length", "PickIs", "derive",
+    ] {
         assert!(!source.defines(name), "{name}");
     }
     for part in ["at", "first"] {
@@ -264,6 +277,7 @@ fn code() {
         assert!(!source.has_part("Reader", part), "{part}");
     }
     assert!(source.has_part("Kind", "Free") && source.has_part("pick", "load"));
+    assert!(source.has_part("pick", "PickIs") && !source.has_part("pick", "length"));
 }
 
 #[test]

@@ -9,6 +9,9 @@ const READ: [&str; 9] = [
     ".antt", ".c", ".edit", ".h", ".md", ".rs", ".rt", ".svg", ".txt",
 ];
 
+/// Folders that hold what was built.
+const BUILT: [&str; 3] = ["out", "target", "__pycache__"];
+
 /// Files by their path from the root, with `/` between folders.
 #[derive(Clone)]
 pub struct Tree {
@@ -77,9 +80,12 @@ impl Tree {
         let text = self.text("crates.txt").unwrap_or_default();
         let lines = text.lines().filter(|line| !line.starts_with('#'));
         let split = |line: &str| {
-            let (name, named) = line.split_once(':')?;
-            let named = named.split_whitespace().map(str::to_string).collect();
-            Some((name.trim().to_string(), named))
+            let (front, named) = line.split_once(':')?;
+            let name = match front.split_whitespace().collect::<Vec<_>>()[..] {
+                [name] | [name, "staticlib"] => name.to_string(),
+                _ => panic!("crates.txt: this line names no crate: {line}"),
+            };
+            Some((name, named.split_whitespace().map(str::to_string).collect()))
         };
         lines.filter_map(split).collect()
     }
@@ -95,7 +101,7 @@ fn add(folder: &Path, front: &str, files: &mut BTreeMap<String, String>) {
         let name = entry.file_name().into_string().expect("a name in UTF-8");
         let path = format!("{front}{name}");
         if entry.file_type().expect("the kind of an entry").is_dir() {
-            if !name.starts_with('.') && name != "target" && name != "__pycache__" {
+            if !name.starts_with('.') && !BUILT.contains(&name.as_str()) {
                 add(&entry.path(), &format!("{path}/"), files);
             }
         } else {
@@ -134,9 +140,14 @@ fn patterns() {
 
 #[test]
 fn crates_are_read() {
-    let tree = Tree::made(&[("crates.txt", "# the base\nmodel:\nblock: model other\n")]);
+    let tree = Tree::made(&[(
+        "crates.txt",
+        "# the base\nmodel:\nblock: model other\nabove staticlib: block\n",
+    )]);
     let crates = tree.crates();
     assert_eq!(crates[0], ("model".to_string(), vec![]));
     assert_eq!(crates[1].1, ["model", "other"]);
+    assert_eq!(crates[2], ("above".to_string(), vec!["block".to_string()]));
     assert!(tree.is_crate("block") && !tree.is_crate("other"));
+    assert!(tree.is_crate("above") && !tree.is_crate("staticlib"));
 }

@@ -1,4 +1,3 @@
-use Prim.Native.Nat.{◌-◌}
 use Rattle.model.proofs.Buffers.{copy_start, copy_turn, copy_end}
 use Rattle.buffer.proofs.copy_front.Goals as goal
 

@@ -1,4 +1,3 @@
-use Prim.Native.Nat.{◌-◌}
 use Rattle.buffer.proofs.ZeroLaws.{zero_cases}
 use Rattle.buffer.proofs.zero_front.Goals as goal
 

@@ -1,4 +1,3 @@
-use Prim.Native.Nat.{◌-◌}
 use borrow.Author.Rules.{rules}
 use Rattle.comparator.specs.Comparator.{comparator_length}
 use Rattle.comparator.proofs.WriteLaws.{bits_start, bits_turn, bits_end}

@@ -1,4 +1,3 @@
-use Prim.Native.Nat.{◌-◌}
 use native.Mathlib.Omega.{arith}
 use Rattle.aes.proofs.Rounds.{rounds_start, rounds_turn, rounds_end, by_fixed_key}
 use Rattle.aes.proofs.fast.permute_fast.Goals as goal

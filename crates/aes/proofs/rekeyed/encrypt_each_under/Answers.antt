@@ -1,4 +1,3 @@
-use Prim.Native.Nat.{◌-◌}
 use mathlib.Core.Path.{ap, ◌∙◌}
 use Rattle.aes.specs.Tables.{state_of}
 use Rattle.aes.proofs.NextKeys.{beside_start, beside_turn, beside_byte, beside_end}
@@ -24,12 +23,12 @@ next_constant-rc-requires c = beside_byte c.loop-r.invariant.1.0
 
 pub loop-r-preserved : goal.loop-r-preserved
 loop-r-preserved c = let more = c.loop-r-test.true in let inv = c.loop-r.invariant in (
-      inv.0,
-      (
-        beside_turn inv.1.0 more c.keyed_round-s.ensures c.next_key-k-in-loop-r.ensures c.next_constant-rc.ensures,
-        beside_turn inv.1.1 more c.keyed_round-t.ensures c.next_key-l-in-loop-r.ensures c.next_constant-rc.ensures,
-      ),
-    )
+  inv.0,
+  (
+    beside_turn inv.1.0 more c.keyed_round-s.ensures c.next_key-k-in-loop-r.ensures c.next_constant-rc.ensures,
+    beside_turn inv.1.1 more c.keyed_round-t.ensures c.next_key-l-in-loop-r.ensures c.next_constant-rc.ensures,
+  ),
+)
 
 pub keyed_last-p-requires : goal.keyed_last-p-requires
 keyed_last-p-requires c = c.loop-r.invariant.0
@@ -39,8 +38,8 @@ keyed_last-q-requires c = c.loop-r.invariant.0
 
 pub returns : goal.returns
 returns c = let all = c.loop-r-test.false in (
-      beside_end c.of_block-first.ensures c.next_key-k.ensures c.loop-r.invariant.1.0 all c.keyed_last-p.ensures
-          c.add-s.ensures c.of_block.ensures,
-      beside_end c.of_block-other.ensures c.next_key-l.ensures c.loop-r.invariant.1.1 all (rw (← c.words.ensures) c.keyed_last-q.ensures)
-          (ap state_of c.of_words-t.ensures ∙ c.add.ensures) c.of_block-2.ensures,
-    )
+  beside_end c.of_block-first.ensures c.next_key-k.ensures c.loop-r.invariant.1.0 all c.keyed_last-p.ensures
+      c.add-s.ensures c.of_block.ensures,
+  beside_end c.of_block-other.ensures c.next_key-l.ensures c.loop-r.invariant.1.1 all (rw (← c.words.ensures) c.keyed_last-q.ensures)
+      (ap state_of c.of_words-t.ensures ∙ c.add.ensures) c.of_block-2.ensures,
+)

@@ -1,7 +1,5 @@
 use mathlib.Core.Path.{◌∙◌}
-use Prim.Native.Nat.{◌-◌}
 use borrow.Author.Rules.{rules}
-use lib.ListN.{take}
 use Rattle.aes.proofs.WordLaws.{word_read, key_start, key_turn, temp_made, temp_kept, made, expand_start, expand_turn, expand_end}
 use Rattle.aes.proofs.schedule.expand_key.Goals as goal
 use Rattle.aes.proofs.schedule.expand_key.Goals.{then-i-eq0, else-i-eq0}
@@ -19,7 +17,7 @@ pub loop-i-2-preserved : goal.loop-i-2-preserved
 loop-i-2-preserved c = let w = c.loop-i-2.w in let i = c.loop-i-2.i in expand_turn c.loop-i-2.invariant c.put_word-w-in-loop-i-2.ensures
     (made w i
     (elim c.if-i-eq0.branch [
-      then-i-eq0 a ↦ temp_made w i c.word-temp.ensures a.if-i-eq0.true a.rot_word.ensures a.sub_word.ensures a.round_constant.ensures (a.temp-is ∙ a.xor_word-temp.ensures)
+      | then-i-eq0 a ↦ temp_made w i c.word-temp.ensures a.if-i-eq0.true a.rot_word.ensures a.sub_word.ensures a.round_constant.ensures (a.temp-is ∙ a.xor_word-temp.ensures)
       | else-i-eq0 a ↦ temp_kept w i (a.temp-is ∙ c.word-temp.ensures) a.if-i-eq0.false
     ])
     c.word.ensures c.xor_word.ensures)

@@ -1,4 +1,3 @@
-use borrow.Author.Rules.{rules}
 use Rattle.model.specs.Circuit.{operands_hold}
 use Rattle.model.specs.Refusals.{gate_verdict}
 use Rattle.model.proofs.Conditions.{conditions}

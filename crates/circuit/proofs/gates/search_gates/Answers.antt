@@ -1,4 +1,3 @@
-use Prim.Native.Nat.{◌-◌}
 use Rattle.circuit.proofs.SearchLaws.{search_start, search_end, turn_counts, turn_fine, turn_fault}
 use Rattle.circuit.proofs.gates.search_gates.Goals as goal
 

@@ -1,7 +1,6 @@
 use Rattle.model.specs.Circuit.{sizes_hold}
 use Rattle.model.proofs.Conditions.{conditions}
 use Rattle.circuit.proofs.HeaderLaws.{by_mark}
-use borrow.Author.Rules.{rules}
 use Rattle.circuit.proofs.header.sizes_hold.Goals as goal
 
 ruleset cases = (conditions, by_mark)

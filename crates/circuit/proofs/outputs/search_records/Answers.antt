@@ -1,4 +1,3 @@
-use Prim.Native.Nat.{◌-◌}
 use Rattle.circuit.proofs.OutputLaws.{records_start, records_turn, records_end, records_fault}
 use Rattle.circuit.proofs.outputs.search_records.Goals as goal
 

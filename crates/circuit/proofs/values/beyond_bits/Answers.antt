@@ -1,4 +1,3 @@
-use Prim.Native.Nat.{◌-◌}
 use Rattle.circuit.proofs.ValueLaws.{gather_start, gather_turn, gather_end}
 use Rattle.circuit.proofs.values.beyond_bits.Goals as goal
 

@@ -1,4 +1,3 @@
-use Prim.Native.Nat.{◌-◌}
 use Rattle.circuit.proofs.ValueLaws.{plain_start, gate_room, gate_small, gate_reads, gate_bits, plain_turn, plain_end}
 use Rattle.circuit.proofs.values.plain_gates.Goals as goal
 

@@ -1,4 +1,3 @@
-use Prim.Native.Nat.{◌-◌}
 use Rattle.circuit.proofs.ValueLaws.{values_start, values_turn, values_fault, values_end}
 use borrow.Author.Rules.{rules}
 use Rattle.circuit.proofs.values.search_values.Goals as goal

@@ -1,4 +1,3 @@
-use Prim.Native.Nat.{◌-◌}
 use Rattle.model.proofs.Verdicts.{together_start, together_end}
 use Rattle.evaluate.proofs.KnownLaws.{token_together}
 use Rattle.evaluate.proofs.hashes.unknown_together.Goals as goal

@@ -1,5 +1,3 @@
-use Prim.Native.Nat.{◌-◌}
-use Rattle.model.specs.Ending.{hashes}
 use Rattle.evaluate.proofs.KnownLaws.{writing_cases}
 use Rattle.evaluate.proofs.hashes.write_bits.Goals as goal
 

@@ -1,4 +1,3 @@
-use Prim.Native.Nat.{◌-◌}
 use borrow.Author.Rules.{rules}
 use Rattle.scheme.proofs.BitLaws.{colour_low}
 use Rattle.evaluate.proofs.LastLaws.{decode_turns, decode_turn}

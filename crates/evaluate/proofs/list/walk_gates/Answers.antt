@@ -34,7 +34,7 @@ loop-s-2-smaller c =
 pub loop-s-2-preserved : goal.loop-s-2-preserved
 loop-s-2-preserved c = record {
   good = good_so _ _ _ _ _ _ (search rules) (search rules) _ _ _
-    (turn_1 _ _ _ _ _ _ (search rules) (search rules) _ _ c.loop-s-2.invariant.good _ c.seen-in-loop-s-2.ensures.same c.seen-in-loop-s-2.ensures.fits _ _ (search rules) c.loop-s-2-test.true c.check_record-s.ensures);
+      (turn_1 _ _ _ _ _ _ (search rules) (search rules) _ _ c.loop-s-2.invariant.good _ c.seen-in-loop-s-2.ensures.same c.seen-in-loop-s-2.ensures.fits _ _ (search rules) c.loop-s-2-test.true c.check_record-s.ensures);
   past = c.check_record-s.ensures.on;
 }
 
@@ -50,7 +50,7 @@ loop-s-3-smaller c =
 pub loop-s-3-preserved : goal.loop-s-3-preserved
 loop-s-3-preserved c = record {
   good = good_so _ _ _ _ _ _ (search rules) (search rules) _ _ _
-    (turn_2 _ _ _ _ _ _ (search rules) (search rules) _ _ c.loop-s-3.invariant.good _ c.seen-in-loop-s-3.ensures.same c.seen-in-loop-s-3.ensures.fits _ _ (search rules) c.loop-s-3-test.true c.write_next-s.ensures);
+      (turn_2 _ _ _ _ _ _ (search rules) (search rules) _ _ c.loop-s-3.invariant.good _ c.seen-in-loop-s-3.ensures.same c.seen-in-loop-s-3.ensures.fits _ _ (search rules) c.loop-s-3-test.true c.write_next-s.ensures);
   past = c.write_next-s.ensures.on;
 }
 

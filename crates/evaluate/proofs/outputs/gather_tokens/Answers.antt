@@ -1,4 +1,3 @@
-use Prim.Native.Nat.{◌-◌}
 use borrow.Author.Rules.{rules}
 use Rattle.evaluate.proofs.OutputLaws.{gather_turns}
 use Rattle.evaluate.proofs.outputs.gather_tokens.Goals as goal

@@ -1,4 +1,3 @@
-use Prim.Native.Nat.{◌-◌}
 use Rattle.evaluate.proofs.WalkLaws.{walk_turns}
 use Rattle.evaluate.proofs.walk.write_tokens.Goals as goal
 

@@ -1,4 +1,3 @@
-use Prim.Native.Nat.{◌-◌}
 use borrow.Author.Rules.{rules}
 use Rattle.model.proofs.Verdicts.{together_start, together_end}
 use Rattle.garble.proofs.ClashLaws.{pair_together, differ_less}

@@ -1,4 +1,3 @@
-use Prim.Native.Nat.{◌-◌}
 use borrow.Author.Rules.{rules}
 use Rattle.model.proofs.Verdicts.{searched}
 use Rattle.garble.proofs.ClashLaws.{pair_cases}

@@ -1,4 +1,3 @@
-use Prim.Native.Nat.{◌-◌}
 use Rattle.garble.proofs.EncodeLaws.{encode_turns}
 use Rattle.garble.proofs.inputs.encode_inputs.Goals as goal
 

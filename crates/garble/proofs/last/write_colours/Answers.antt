@@ -1,4 +1,3 @@
-use Prim.Native.Nat.{◌-◌}
 use Rattle.garble.proofs.LastLaws.{colours_cases, colours_end}
 use borrow.Author.Rules.{rules}
 use Rattle.garble.proofs.last.write_colours.Goals as goal

@@ -1,4 +1,3 @@
-use Prim.Native.Nat.{◌-◌}
 use borrow.Author.Rules.{rules}
 use Rattle.garble.proofs.LastLaws.{hashes_cases, hashes_turn}
 use Rattle.garble.proofs.last.write_hashes.Goals as goal

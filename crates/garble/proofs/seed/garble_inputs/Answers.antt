@@ -1,4 +1,3 @@
-use Prim.Native.Nat.{◌-◌}
 use borrow.Author.Rules.{rules}
 use Rattle.garble.proofs.InputLaws.{inputs_start, room_zeros, room_ones, wire_fits, inputs_turn, inputs_end}
 use Rattle.garble.proofs.seed.garble_inputs.Goals as goal

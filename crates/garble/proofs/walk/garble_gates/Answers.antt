@@ -1,4 +1,3 @@
-use Prim.Native.Nat.{◌-◌}
 use borrow.Author.Rules.{rules}
 use Rattle.garble.proofs.HeldLaws.{fresh_other}
 use Rattle.garble.proofs.WalkLaws.{walk_start, walk_ahead, walk_calls, walk_turn, walk_cases}
@@ -20,7 +19,7 @@ fresh_block-taken-requires-clause-gates_room c = walk_ahead _ _ _ _ c.requires.w
 -- the block of gate k: by scheme 1 it was taken, and the others have no use for it
 pub garble_step-step-requires-clause-fresh_is : goal.garble_step-step-requires-clause-fresh_is
 garble_step-step-requires-clause-fresh_is c = elim c.if-plan-eq1.branch [
-  then-plan-eq1 w ↦ rw w.fresh-is w.fresh_block-taken.ensures.fresh_is
+  | then-plan-eq1 w ↦ rw w.fresh-is w.fresh_block-taken.ensures.fresh_is
   | else-plan-eq1 w ↦ fresh_other _ _ _ _ _ w.if-plan-eq1.false
 ]
 
@@ -33,7 +32,7 @@ overflow_add-calls c = walk_calls _ _ _ _ c.requires.walk_of _ _ _ c.requires.ga
 pub loop-k-preserved : goal.loop-k-preserved
 loop-k-preserved c = walk_turn _ _ _ _ c.requires.walk_of _ _ _ c.requires.gates_start _ _ _ _ _ _ c.loop-k.invariant (search rules) _ _ _ _ c.garble_step-step.ensures _
     (elim c.if-plan-eq1.branch [
-      then-plan-eq1 w ↦ rw w.held-is w.fresh_block-taken.ensures.held_is
+      | then-plan-eq1 w ↦ rw w.held-is w.fresh_block-taken.ensures.held_is
       | else-plan-eq1 w ↦ rw w.held-is c.loop-k.invariant.held_is
     ])
 

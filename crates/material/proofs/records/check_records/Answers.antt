@@ -1,4 +1,3 @@
-use Prim.Native.Nat.{◌-◌}
 use Rattle.material.proofs.RecordLaws.{records_start, at_turn, turn_next, records_fault, records_end}
 use Rattle.material.proofs.records.check_records.Goals as goal
 

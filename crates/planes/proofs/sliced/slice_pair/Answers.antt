@@ -1,4 +1,3 @@
-use Prim.Native.Nat.{◌-◌}
 use native.Mathlib.Omega.{arith}
 use borrow.Author.Rules.{rules}
 use Rattle.planes.proofs.Keys.{slicing_start, slicing_byte, slicing_turn, slicing_end}

@@ -1,5 +1,4 @@
 use mathlib.Core.Path.{refl}
-use Prim.Native.Nat.{◌-◌}
 use native.Mathlib.Omega.{arith}
 use Rattle.model.specs.Aes.{◌⊕◌, round_key, add_round_key}
 use Rattle.block.proofs.Fill.{fill_start, fill_turn, fill_end}
