@@ -242,6 +242,9 @@ fn are_two_lines(ended: &Ended, beginning: &str, lines: [&str; 2]) {
 fn an_archive_that_is_current() {
     let place = Place::new("current");
     place.is_archive(&place.archive(""), 0);
+    // What `rt` writes makes it no older.
+    place.write("a repository/crates/model/out/rlib/stamp", b"");
+    place.is_archive(&place.archive(""), 0);
     // Then it needs no toolchain.
     place.remove("tools/rt");
     place.is_archive(&place.archive(""), 0);
@@ -688,7 +691,7 @@ fn temporary_files() {
         "mktemp >/dev/null; ls -ld \"$TMPDIR\"; echo $TMPDIR >\"$root/room\"; {MAKE}"
     ));
     let own = place.path("temporary").display().to_string();
-    let none = ["/dev/shm", "/tmp"].map(str::to_owned);
+    let none = ["/tmp"].map(str::to_owned);
     for (variable, folders) in [(own.as_str(), &[own.clone()][..]), ("", &none)] {
         place.remove(ARCHIVE);
         place.write("room", b"");
