@@ -4,8 +4,8 @@
 use std::env;
 use std::ffi::OsString;
 use std::fs::{self, File};
+use std::io;
 use std::os::unix::ffi::OsStringExt;
-use std::os::unix::fs::symlink;
 use std::path::{Path, PathBuf};
 use std::process::{Command, Output, Stdio};
 
@@ -14,11 +14,12 @@ const ALONE: &str = "\
 no libweighhare.a: it is made in the library's repository, and this package does not lie there
 set WEIGHHARE_ARCHIVE to the absolute path of a libweighhare.a that was made elsewhere, and try again";
 
-/// Gives the folder that cargo lends to the build script, with a link in it, `libweighhare.a`, to the archive: so what cargo
-/// reads is the same whatever the archive is called. Where there is none it says why, and cargo ends the build.
+/// Gives the folder that cargo lends to the build script, with a copy of the archive in it, `libweighhare.a`: so what the
+/// linker reads is the same whatever the archive is called. It is no link, which `rt ci` refuses in the whole repository.
+/// Where there is no archive it says why, and cargo ends the build.
 pub fn link() -> Option<PathBuf> {
     println!("cargo::rerun-if-env-changed=WEIGHHARE_ARCHIVE");
-    match find().and_then(|archive| link_to(&archive)) {
+    match find().and_then(|archive| copy(&archive)) {
         Ok(folder) => Some(folder),
         Err(message) => {
             for line in message.lines() {
@@ -64,12 +65,25 @@ fn own(repository: &Path) -> Result<PathBuf, String> {
     if !script.is_file() || !repository.join("crates/weighhare").is_dir() {
         return Err(ALONE.to_owned());
     }
-    for source in ["crates", "crates.txt"] {
-        let source = repository.join(source);
+    let crates = repository.join("crates");
+    for source in sources(&crates).map_err(|error| format!("cannot read {crates:?}: {error}"))? {
         println!("cargo::rerun-if-changed={}", source.display());
     }
+    let list = repository.join("crates.txt");
+    println!("cargo::rerun-if-changed={}", list.display());
     let ended = Command::new(script).stdin(Stdio::null()).output();
     printed(ended.map_err(|error| format!("tools/archive did not start: {error}"))?)
+}
+
+/// The folders with the crates' sources. Beside them is what `rt` writes, which changes whenever it runs.
+fn sources(crates: &Path) -> io::Result<Vec<PathBuf>> {
+    let mut found = Vec::new();
+    for entry in fs::read_dir(crates)? {
+        let folder = entry?.path();
+        let sources = ["src", "specs", "proofs"].map(|name| folder.join(name));
+        found.extend(sources.into_iter().filter(|source| source.is_dir()));
+    }
+    Ok(found)
 }
 
 /// The path that the script printed, or what it said went wrong.
@@ -84,14 +98,13 @@ fn printed(ended: Output) -> Result<PathBuf, String> {
     Err(String::from_utf8_lossy(&ended.stderr).into_owned())
 }
 
-fn link_to(archive: &Path) -> Result<PathBuf, String> {
+fn copy(archive: &Path) -> Result<PathBuf, String> {
+    println!("cargo::rerun-if-changed={}", archive.display());
     let folder = env::var_os("OUT_DIR").expect("cargo names the folder for what is built");
     let folder = PathBuf::from(folder);
-    let link = folder.join("libweighhare.a");
-    // There is none yet, or that of an earlier run.
-    let _ = fs::remove_file(&link);
-    symlink(archive, &link).map_err(|error| format!("cannot make {link:?}: {error}"))?;
-    // cargo looks at the archive itself, through the link.
-    println!("cargo::rerun-if-changed={}", link.display());
+    let copy = folder.join("libweighhare.a");
+    // There is none yet, or that of an earlier run, which may be a link.
+    let _ = fs::remove_file(&copy);
+    fs::copy(archive, &copy).map_err(|error| format!("cannot make {copy:?}: {error}"))?;
     Ok(folder)
 }

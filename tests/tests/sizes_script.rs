@@ -20,8 +20,10 @@ const ANSWER: &str = "2 1 1 1\n80 64 48\n";
 /// The copies of the scripts, in a folder whose name has a blank.
 const SCRIPT: &str = "a repository/sizes";
 const PROVE: &str = "a repository/tools/prove";
+/// The program where `rt` makes it, and where it stays.
+const MADE: &str = "a repository/crates/sizes/out/sizes";
 const PROGRAM: &str = "a repository/target/bin/sizes";
-const STAMP: &str = "a repository/target/stamp/sizes";
+const STAMP: &str = "a repository/crates/sizes/out/sizes.stamp";
 const LOG: &str = "a repository/target/prove.log";
 const HEADER: &str = "a repository/include/weighhare.h";
 
@@ -53,10 +55,10 @@ impl Place {
         }
         place.write("circuit", &CIRCUIT);
         place.write("folder/file", b"");
-        place.write("a repository/target/log/sizes.out", b"");
         place.write(STAMP, b"");
         place.stand_in("tools/rt", &format!("{PLAYS}{RT}"));
         place.rt("exit 0");
+        place.stand_in(MADE, PROGRAM_TEXT);
         place.stand_in(PROGRAM, PROGRAM_TEXT);
         place.answer(ANSWER);
         place
@@ -117,6 +119,14 @@ impl Place {
 /// A file of a crate. It has not the ending of Rattle's files: `rt` looks for those in the whole repository, here too.
 fn source(name: &str) -> String {
     format!("a repository/crates/{name}/src/file")
+}
+
+/// What `rt` leaves of a crate that is proved.
+fn stamp(name: &str) -> String {
+    match name {
+        "sizes" => STAMP.to_owned(),
+        _ => format!("a repository/crates/{name}/out/rlib/stamp"),
+    }
 }
 
 /// An error that is seen before anything is proved.
@@ -196,30 +206,30 @@ fn a_long_reason() {
     assert_eq!(log, "one line\nanother line\n");
 }
 
-/// Where `rt` cannot write its verdict, it takes that of an earlier run.
+/// What earlier runs left of the crates and of the program is not taken where `rt` does not prove now.
 #[test]
 fn unproved_in_this_run() {
     let place = Place::new("earlier_verdict");
     for name in CRATES {
-        let verdict = format!("target/log/{name}.res");
-        place.write(&format!("a repository/{verdict}"), b"proved\n");
-        place.rt(&format!("grep proved {verdict}"));
+        place.write(&stamp(name), b"proved\n");
+        place.rt("cat out/sizes.stamp\nexit 1");
         is_unproved(&place, &place.run(&["circuit"], ""));
         assert!(place.exists("rt-ran"));
     }
 }
 
+/// Where the new program cannot be put in the place of an earlier one, that is not run.
 #[test]
-fn unproved_where_an_earlier_verdict_stays() {
-    let place = Place::new("lasting_verdict");
-    place.write("a repository/target/log/sizes.res/file", b"");
+fn unproved_where_an_earlier_program_stays() {
+    let place = Place::new("lasting_program");
+    place.write("a repository/target/bin/sizes.new/file", b"");
     let ended = place.run(&["circuit"], "");
-    is_unproved(&place, &ended);
-    ended.is_error("target/log/sizes.res");
-    assert!(!place.exists("rt-ran"));
+    ended.is_error("target/bin/sizes\n");
+    assert!(ended.stderr.contains("sizes: cannot write /"), "{ended:?}");
+    assert!(!place.exists("program-got"), "{ended:?}");
 }
 
-/// Two runs of `rt` at once read each other's verdicts.
+/// Two runs at once would write the same files.
 #[test]
 fn two_at_once() {
     let place = Place::new("two_at_once");
@@ -270,12 +280,18 @@ fn no_toolchain() {
 #[test]
 fn no_program_though_proved() {
     let place = Place::new("no_program");
-    let message = "target/bin/sizes cannot be run";
-    place.set_mode(PROGRAM, 0o644);
+    place.set_mode(MADE, 0o644);
+    place
+        .run(&["circuit"], "")
+        .is_error("target/bin/sizes cannot be run");
+    place.remove(MADE);
+    let message = "crates/sizes/out/sizes is not there\n";
     place.run(&["circuit"], "").is_error(message);
+    assert!(!place.exists("program-got"));
+    place.stand_in(MADE, PROGRAM_TEXT);
     place.remove(PROGRAM);
-    place.run(&["circuit"], "").is_error(message);
     place.write(&format!("{PROGRAM}/file"), b"");
+    let message = "target/bin/sizes\n";
     place.run(&["circuit"], "").is_error(message);
 }
 
@@ -521,7 +537,7 @@ fn through_links() {
     link(Path::new("../a repository/sizes"), "tools/on-the-path");
     link(Path::new("a repository"), "linked");
     let repository = fs::canonicalize(place.path("a repository")).expect("a folder");
-    let due = format!("{}: check sizes\n", repository.display());
+    let due = format!("{}/crates/sizes: run\n", repository.display());
     let names = [
         SCRIPT,
         "links/absolute",
@@ -576,19 +592,20 @@ fn is_answer(ended: &Ended, messages: &str) {
 fn a_line_for_each_crate() {
     let place = Place::new("lines");
     place.remove(STAMP);
+    place.remove(MADE);
     place.remove(PROGRAM);
     place.stand_in("built", PROGRAM_TEXT);
-    let build = "cp \"$root/built\" target/bin/sizes && : >target/stamp/sizes";
+    let build = "cp \"$root/built\" out/sizes && : >out/sizes.stamp";
     place.rt(&format!("{}{build}", proves(&CRATES)));
     is_answer(&place.run(&["circuit"], ""), &lines(&CRATES, FROM_NOTHING));
     // Those of a run from nothing alone say how long it takes.
     is_answer(&place.run(&["circuit"], ""), &lines(&CRATES, ""));
     place.remove(STAMP);
-    place.write("a repository/target/stamp/block", b"");
+    place.write(&stamp("block"), b"");
     is_answer(&place.run(&["circuit"], ""), &lines(&CRATES, FROM_NOTHING));
     for name in CRATES {
         place.remove(STAMP);
-        let stamp = format!("a repository/target/stamp/{name}");
+        let stamp = stamp(name);
         place.write(&stamp, b"");
         place.rt(&format!("{}{build}", proves(&[])));
         place.run(&["circuit"], "").answers(0, ANSWER);
@@ -606,8 +623,8 @@ fn crates_that_are_unchanged() {
     let place = Place::new("unchanged");
     for crates in [&[][..], &["model"], &["material"], &["text", "sizes"]] {
         for name in CRATES {
-            place.write(&format!("a repository/target/log/{name}.say"), b"");
-            place.write(&format!("a repository/target/log/{name}.res"), b"proved\n");
+            place.write(&stamp(name), b"proved\n");
+            place.write(LOG, format!("rt: chose --jobs 2 for {name}\n").as_bytes());
         }
         place.rt(&proves(crates));
         is_answer(&place.run(&["circuit"], ""), &lines(crates, ""));
@@ -629,7 +646,7 @@ fn a_crate_that_is_proved_at_once() {
 #[test]
 fn a_crate_that_is_not_proved() {
     let place = Place::new("crate_not_proved");
-    let does = "echo failed >target/log/buffer.res; sleep 0.3; echo a reason; exit 1";
+    let does = "sleep 0.3; echo a reason; exit 1";
     place.rt(&format!("begins model; said 'model ('; {does}"));
     let ended = place.run(&["circuit"], "");
     is_unproved(&place, &ended);

@@ -28,6 +28,8 @@ const HEADER: &str = "a repository/include/weighhare.h";
 const CRATES: &str = "a repository/crates.txt";
 /// It has not the ending of Rattle's files: `rt` looks for those in the whole repository, here too.
 const SOURCE: &str = "a repository/crates/model/src/file";
+/// The archive where `rt` makes it, and where it stays.
+const MADE: &str = "a repository/crates/weighhare/out/libweighhare.a";
 const ARCHIVE: &str = "a repository/target/staticlib/libweighhare.a";
 const LOG: &str = "a repository/target/prove.log";
 
@@ -42,7 +44,7 @@ const SCRIPTS: [&str; 5] = [
 /// The library is of three crates; `io` is none of the repository's.
 const CRATES_TEXT: &str =
     "# A list.\nmodel:\nbuffer : model # which it names\nother: model weighhare\n\
-    weighhare: buffer io model";
+    weighhare staticlib: buffer io model";
 
 /// The system's commands that the scripts and the stand-ins use.
 const COMMANDS: &str =
@@ -60,19 +62,15 @@ const NO_ARCHIVE: [&str; 2] = [
 
 /// The stand-ins for what builds take all of their standard input first, and leave a line for each time.
 const RT: &str = "cat >/dev/null\necho \"$(pwd -P): $*\" >>\"$root/rt-ran\"\n. \"$root/rt-does\"\n";
-/// What one proof leaves of `rt`: the crates that the library names are proved first.
-const RT_WORDS: [&str; 2] = ["check buffer model", "staticlib weighhare"];
+/// What one proof leaves of `rt`, which proves the crates that the library names first.
+const RT_WORDS: [&str; 1] = ["crates/weighhare: lib"];
 const CARGO: &str = "cat >/dev/null\necho \"$(pwd -P): $*\" >>\"$root/cargo-ran\"\n\
     echo \"$WEIGHHARE_ARCHIVE\" >\"$root/cargo-archive\"\n. \"$root/cargo-does\"\n";
 const PROGRAM_TEXT: &str = "cat >\"$root/program-got\"\npwd -P >\"$root/program-where\"\n\
     for word; do printf '%s\\0' \"$word\"; done >\"$root/program-words\"\n. \"$root/program-does\"\n";
 
 /// Makes the archive, where that is asked for.
-const MAKE: &str =
-    "if [ $1 = staticlib ]; then mkdir -p target/staticlib; echo made >target/staticlib/libweighhare.a; fi";
-
-/// What `rt staticlib` does where `rt check` has proved the crates below.
-const PROVE_OWN: &str = "unchanged model; unchanged buffer; proves weighhare";
+const MAKE: &str = "if [ $1 = lib ]; then echo made >out/libweighhare.a; fi";
 
 /// What is said of all three crates, where none was proved before.
 const ALL: [(usize, &str); 3] = [(1, "model"), (2, "buffer"), (3, "weighhare")];
@@ -90,7 +88,7 @@ impl Place {
         }
         place.copy("include/weighhare.h", HEADER);
         place.write("a repository/rust/Cargo.toml", b"");
-        place.write("a repository/target/log/model.say", b"");
+        place.write(MADE, b"made\n");
         place.write(CRATES, CRATES_TEXT.as_bytes());
         place.write(SOURCE, b"fn main() {}\n");
         place.set_modified(SOURCE, SystemTime::now() - HOUR);
@@ -141,9 +139,14 @@ impl Place {
     }
 
     /// What the stand-in does to the crates below the library's; then it proves that, and makes the archive.
-    fn rt_check(&self, does: &str) {
-        let own = format!("{PROVE_OWN}; {MAKE}");
-        self.rt(&format!("if [ $1 = check ]; then {does}; else {own}; fi"));
+    fn rt_below(&self, does: &str) {
+        self.rt(&format!("{does}; proves weighhare; {MAKE}"));
+    }
+
+    /// There is no archive, neither where `rt` makes it nor where it stays.
+    fn remove_made(&self) {
+        self.remove(MADE);
+        self.remove(ARCHIVE);
     }
 
     /// What the stand-in for `cargo` does, in sh.
@@ -239,6 +242,9 @@ fn are_two_lines(ended: &Ended, beginning: &str, lines: [&str; 2]) {
 fn an_archive_that_is_current() {
     let place = Place::new("current");
     place.is_archive(&place.archive(""), 0);
+    // What `rt` writes makes it no older.
+    place.write("a repository/crates/model/out/rlib/stamp", b"");
+    place.is_archive(&place.archive(""), 0);
     // Then it needs no toolchain.
     place.remove("tools/rt");
     place.is_archive(&place.archive(""), 0);
@@ -250,7 +256,7 @@ fn an_archive_that_is_missing() {
     place.remove(ARCHIVE);
     place.is_archive(&place.archive("<&-"), 1);
     let folder = place.real("a repository");
-    let due = RT_WORDS.map(|words| format!("{folder}: {words}\n"));
+    let due = RT_WORDS.map(|words| format!("{folder}/{words}\n"));
     assert_eq!(place.read("rt-ran"), due.concat());
     place.is_archive(&place.archive(""), 0);
 }
@@ -284,9 +290,8 @@ fn what_rt_prints() {
             "echo {line} of $1\necho an error of $1 >&2\n{MAKE}"
         ));
         place.is_archive(&place.archive(""), 1);
-        let due =
-            ["check", "staticlib"].map(|word| format!("{line} of {word}\nan error of {word}\n"));
-        assert_eq!(place.read(LOG), due.concat());
+        let due = format!("{line} of lib\nan error of lib\n");
+        assert_eq!(place.read(LOG), due);
     }
 }
 
@@ -318,13 +323,22 @@ fn an_archive_that_is_not_proved() {
         assert_eq!(ended.stderr, due);
         assert_eq!(place.times("rt-ran"), 1);
     }
-    place.rt("echo of $1\n[ $1 = check ]");
+    // The crates below are proved, and the library's own is not.
+    place.write(&stamp("model"), b"");
+    place.rt("proves model; proves buffer; proves weighhare\necho of $1\nexit 1");
     let ended = place.archive("");
     ended.is_error("");
-    let due = format!("of check\nof staticlib\n{}", place.unproved(""));
-    assert_eq!(ended.stderr, due);
-    assert_eq!(place.times("rt-ran"), 2);
-    place.remove(ARCHIVE);
+    let ends =
+        "crate model: modules loaded=2 checked=1\ncrate buffer: modules loaded=2 checked=1\n\
+        crate weighhare: modules loaded=2 checked=1\n";
+    let due = format!(
+        "{}{ends}of lib\n{}",
+        lines("", &ALL, ""),
+        place.unproved("")
+    );
+    assert_eq!(ended.timeless(), due);
+    assert_eq!(place.times("rt-ran"), 1);
+    place.remove_made();
     place.rt("exit 0");
     place.archive("").is_error("libweighhare.a is not there");
 }
@@ -344,29 +358,28 @@ fn a_long_reason() {
     assert_eq!(place.read(LOG), lines.concat());
 }
 
-/// Where `rt` cannot write its verdict, it takes that of an earlier run.
+/// What earlier runs left of the crates and of the archive is not taken where `rt` does not prove now.
 #[test]
 fn verdicts_of_an_earlier_run() {
     let place = Place::new("earlier_verdicts");
-    let verdict = "a repository/target/log/model.res";
     place.remove(ARCHIVE);
-    place.write(verdict, b"proved\n");
-    place.rt(&format!("grep proved target/log/model.res && {MAKE}"));
+    for (_, name) in ALL {
+        place.write(&stamp(name), b"proved\n");
+    }
+    place.rt("cat out/libweighhare.a\nexit 1");
     place.archive("").is_error(UNPROVED);
     assert_eq!(place.times("rt-ran"), 1);
-    // Nor is that of `rt check` one of `rt staticlib`.
-    place.rt(&format!(
-        "if [ $1 = check ]; then ends model; else grep proved target/log/model.res && {MAKE}; fi"
-    ));
-    place.archive("").is_error(UNPROVED);
-    assert_eq!(place.times("rt-ran"), 2);
-    // One that cannot be removed
-    place.write(&format!("{verdict}/file"), b"");
+    assert!(!place.exists(ARCHIVE));
+    // An earlier archive that the new one cannot be put in the place of
+    place.write(ARCHIVE, b"made\n");
+    place.set_modified(ARCHIVE, SystemTime::now() - 2 * HOUR);
+    place.write(&format!("{ARCHIVE}.new/file"), b"");
     place.rt(MAKE);
+    let message = format!("cannot write {}\n", place.real(ARCHIVE));
     let ended = place.archive("");
-    ended.is_error("target/log/model.res");
-    assert!(ended.stderr.ends_with(UNPROVED), "{ended:?}");
-    assert_eq!(place.times("rt-ran"), 0);
+    ended.is_error(&message);
+    assert!(ended.stderr.ends_with(&message), "{ended:?}");
+    place.archive("").is_error(&message);
 }
 
 #[test]
@@ -416,7 +429,7 @@ fn an_archive_that_is_named() {
     are_two_lines(&run(""), "", NO_ARCHIVE);
 }
 
-/// Two runs of `rt` at once would read each other's verdicts; and the second has nothing left to do.
+/// Two runs at once would write the same files; and the second has nothing left to do.
 #[test]
 fn two_at_once() {
     let place = Place::new("two_at_once");
@@ -472,7 +485,7 @@ fn crates_that_change_while_they_are_proved() {
         "rm crates/model/src/another",
     ] {
         place.set_modified(ARCHIVE, SystemTime::now() - 2 * HOUR);
-        place.rt(&format!("[ $1 = check ] && {change}; {MAKE}"));
+        place.rt(&format!("(cd ../.. && {change}); {MAKE}"));
         place
             .archive("")
             .is_error("the crates changed while they were proved: try again\n");
@@ -490,6 +503,14 @@ fn a_path_that_cannot_be_written() {
     }
 }
 
+/// What `rt` leaves of a crate that is proved.
+fn stamp(name: &str) -> String {
+    match name {
+        "weighhare" => MADE.to_owned(),
+        _ => format!("a repository/crates/{name}/out/rlib/stamp"),
+    }
+}
+
 /// The lines of crates by their numbers, after a beginning, and with what follows the time.
 fn lines(beginning: &str, crates: &[(usize, &str)], rest: &str) -> String {
     let of = |(number, name)| line(beginning, number, name, rest) + "\n";
@@ -503,20 +524,20 @@ fn line(beginning: &str, number: usize, names: &str, rest: &str) -> String {
 #[test]
 fn a_line_for_each_crate() {
     let place = Place::new("lines");
-    place.rt_check("proves model; proves buffer");
+    place.rt_below("proves model; proves buffer");
     for (script, words, beginning) in [
         (ARCHIVE_SCRIPT, &[][..], ""),
         (ARCHIVE_SCRIPT, &["another script"], "another script: "),
         (SCRIPT, &["word"], "weighhare: "),
         (INSTALL, &["to"], "install: "),
     ] {
-        place.remove(ARCHIVE);
+        place.remove_made();
         let ended = place.run(place.call(script, "").args(words));
         assert_eq!(ended.status, Some(0));
         assert_eq!(ended.timeless(), lines(beginning, &ALL, FROM_NOTHING));
     }
-    place.remove(ARCHIVE);
-    place.rt_check("begins model; begins buffer; said 'buffer ('; ends model; ends buffer");
+    place.remove_made();
+    place.rt_below("begins model; begins buffer; said 'buffer ('; ends model; ends buffer");
     let ended = place.archive("");
     assert_eq!(ended.status, Some(0));
     assert_eq!(ended.timeless(), lines("", &ALL, FROM_NOTHING));
@@ -526,17 +547,17 @@ fn a_line_for_each_crate() {
 #[test]
 fn crates_that_are_unchanged() {
     let place = Place::new("unchanged");
-    place.write("a repository/target/stamp/model", b"");
+    place.write(&stamp("model"), b"");
     for (does, due) in [
         ("unchanged model; unchanged buffer", &ALL[2..]),
         ("unchanged model; proves buffer", &ALL[1..]),
         ("proves model; proves buffer", &ALL),
     ] {
         place.remove(ARCHIVE);
-        place.rt_check(does);
+        place.rt_below(does);
         for (_, name) in ALL {
-            place.write(&format!("a repository/target/log/{name}.say"), b"");
-            place.write(&format!("a repository/target/log/{name}.res"), b"failed\n");
+            place.write(&stamp(name), b"");
+            place.write(LOG, format!("rt: chose --jobs 2 for {name}\n").as_bytes());
         }
         let ended = place.weighhare(&[], "");
         let found = (ended.status, ended.stdout.as_str(), ended.timeless());
@@ -549,22 +570,23 @@ fn crates_that_are_unchanged() {
 #[test]
 fn how_long_it_takes_in_all() {
     let place = Place::new("in_all");
-    place.rt_check("unchanged model; unchanged buffer");
+    place.rt_below("unchanged model; unchanged buffer");
     let cases = ALL.map(|(_, name)| (name, ""));
-    for (stamp, rest) in [("other", FROM_NOTHING)].into_iter().chain(cases) {
-        place.remove(ARCHIVE);
-        let stamp = format!("a repository/target/stamp/{stamp}");
-        place.write(&stamp, b"");
+    for (name, rest) in [("other", FROM_NOTHING)].into_iter().chain(cases) {
+        place.remove_made();
+        place.write(&stamp(name), b"");
         let ended = place.archive("");
-        assert_eq!(ended.timeless(), lines("", &ALL[2..], rest), "{stamp}");
-        place.remove(&stamp);
+        assert_eq!(ended.timeless(), lines("", &ALL[2..], rest), "{name}");
+        if name != "weighhare" {
+            place.remove(&stamp(name));
+        }
     }
 }
 
 #[test]
 fn how_long_it_took() {
     let place = Place::new("so_far");
-    place.rt_check("unchanged model; unchanged buffer");
+    place.rt_below("unchanged model; unchanged buffer");
     // bash begins to count there.
     for (seconds, due) in [("0", "0:0"), ("70", "1:1"), ("600", "10:0")] {
         place.remove(ARCHIVE);
@@ -579,10 +601,8 @@ fn how_long_it_took() {
 #[test]
 fn a_crate_that_is_not_proved() {
     let place = Place::new("crate_not_proved");
-    place.remove(ARCHIVE);
-    place.rt(
-        "begins model; said 'model ('; echo failed >target/log/buffer.res; sleep 0.7; echo a reason; exit 1",
-    );
+    place.remove_made();
+    place.rt("begins model; said 'model ('; sleep 0.7; echo a reason; exit 1");
     let ended = place.weighhare(&[], "");
     ended.is_error("");
     let due = lines("weighhare: ", &ALL[..1], FROM_NOTHING);
@@ -600,16 +620,12 @@ fn on_a_terminal() {
     };
     let all = |number, names| over(&line("weighhare: ", number, names, FROM_NOTHING));
 
-    place.remove(ARCHIVE);
-    place.rt_check(
-        "begins model; said 'model ('; begins buffer; said 'model, buffer ('; ends model; said ': buffer ('
-        ends buffer",
-    );
+    place.remove_made();
+    place.rt_below("begins model; said 'model ('; begins buffer; said 'buffer ('");
     let Some(ended) = run("xterm") else { return };
     let due = [
         "",
         &all(1, "model"),
-        &all(2, "model, buffer"),
         &all(2, "buffer"),
         &all(3, "weighhare"),
         "\x1b[Kanswer",
@@ -628,15 +644,15 @@ fn on_a_terminal() {
     );
 
     // A terminal that cannot write over its lines
-    place.rt_check("proves model; proves buffer");
+    place.rt_below("proves model; proves buffer");
     for kind in ["dumb", ""] {
-        place.remove(ARCHIVE);
+        place.remove_made();
         let ended = run(kind).expect("a terminal");
         let due = lines("weighhare: ", &ALL, FROM_NOTHING).replace('\n', "\r\n");
         assert_eq!(timeless(&ended.stdout), due + "answer\r\n");
     }
 
-    place.remove(ARCHIVE);
+    place.remove_made();
     place.rt("begins model; said 'model ('; echo a reason; exit 1");
     let ended = run("xterm").expect("a terminal");
     let log = place.real(LOG);
@@ -672,10 +688,10 @@ fn temporary_files() {
     let place = Place::new("temporary_files");
     place.write("temporary/file", b"");
     place.rt(&format!(
-        "mktemp >/dev/null; ls -ld \"$TMPDIR\"; mv \"$root/room\" \"$root/last\"; echo $TMPDIR >\"$root/room\"; {MAKE}"
+        "mktemp >/dev/null; ls -ld \"$TMPDIR\"; echo $TMPDIR >\"$root/room\"; {MAKE}"
     ));
     let own = place.path("temporary").display().to_string();
-    let none = ["/dev/shm", "/tmp"].map(str::to_owned);
+    let none = ["/tmp"].map(str::to_owned);
     for (variable, folders) in [(own.as_str(), &[own.clone()][..]), ("", &none)] {
         place.remove(ARCHIVE);
         place.write("room", b"");
@@ -683,7 +699,6 @@ fn temporary_files() {
         place.is_archive(&place.run(call.env("TMPDIR", variable)), 1);
         assert!(place.read(LOG).starts_with("drwx--x--x"), "{variable}");
         let room = place.read("room");
-        assert_eq!(room, place.read("last"));
         let (folder, _) = room.rsplit_once("/prove.").expect("a folder with a name");
         assert!(folders.iter().any(|due| due == folder), "{room}");
         assert!(!Path::new(room.trim_end()).exists(), "{room}");
@@ -705,7 +720,7 @@ fn what_rt_leaves() {
     let mut call = place.call(ARCHIVE_SCRIPT, "");
     let ended = place.run(call.env("TMPDIR", place.path("temporary")));
     ended.is_error("");
-    assert!(ended.stderr.ends_with(UNPROVED), "{ended:?}");
+    assert!(ended.stderr.ends_with(&place.unproved("")), "{ended:?}");
     place.has_nothing_left();
 }
 
@@ -728,10 +743,10 @@ fn no_standard_error() {
     place.stand_in("reader", "head -n 1 \"$root/fifo\" >\"$root/first\"\n");
     let mut reader = Command::new(place.path("reader"));
     let mut reader = reader.spawn().expect("a reader");
-    place.remove(ARCHIVE);
+    place.remove_made();
     let check =
         "begins model; until [ -s \"$root/first\" ]; do sleep 0.05; done; sleep 0.2; begins buffer";
-    place.rt(&format!("if [ $1 = check ]; then {check}; fi; {MAKE}"));
+    place.rt(&format!("{check}; {MAKE}"));
     place.weighhare(&[], "2>fifo").answers(0, "answer\n");
     assert!(reader.wait().expect("an end").success());
     assert_eq!(

@@ -1,13 +1,14 @@
 //! Folders for the tests of the repository's scripts. Each holds copies of the scripts, and stand-ins for
 //! what they start, which do what the test says and leave a trace. So no toolchain is needed, and the
-//! repository's own build stays untouched.
+//! repository's own build stays untouched. They are outside the repository, where `rt ci` refuses links and a
+//! second list of crates, and are removed.
 
 use std::env;
 use std::fs::{self, File};
 use std::os::unix::fs::PermissionsExt;
 use std::os::unix::process::CommandExt;
 use std::path::{Path, PathBuf};
-use std::process::{Child, Command, Stdio};
+use std::process::{self, Child, Command, Stdio};
 use std::sync::{Mutex, MutexGuard, PoisonError};
 use std::thread;
 use std::time::{Duration, Instant};
@@ -15,12 +16,12 @@ use std::time::{Duration, Instant};
 /// The time that one run may take.
 const TIME: Duration = Duration::from_secs(10);
 
-/// For a stand-in for `rt`, in sh: what `rt` does to a crate that it proves, and to one that is unchanged. The
+/// For a stand-in for `rt`, in sh: what `rt` says of a crate that it proves, and of one that is unchanged. The
 /// crate is proved once the script has said so, or after five seconds.
 pub const PLAYS: &str = "\
-begins() { mkdir -p target/log; echo failed >target/log/$1.res; : >target/log/$1.say; }
-ends() { echo proved >target/log/$1.res; }
-unchanged() { mkdir -p target/log; echo failed >target/log/$1.res; ends $1; }
+begins() { echo \"rt: chose --jobs 2 for $1\"; }
+ends() { echo \"crate $1: modules loaded=2 checked=1\"; }
+unchanged() { :; }
 said() {
     turns=0
     until grep -qF \"$1\" \"$root/stdout\" \"$root/stderr\" || [ $turns -eq 100 ]; do
@@ -45,9 +46,12 @@ lingers() {
 /// be started. So one test runs at a time.
 static ALONE: Mutex<()> = Mutex::new(());
 
+/// A folder that is removed in the end.
+struct Root(PathBuf);
+
 /// A folder for one test.
 pub struct Place {
-    root: PathBuf,
+    root: Root,
     _alone: MutexGuard<'static, ()>,
 }
 
@@ -63,21 +67,21 @@ impl Place {
     /// An empty folder, for a test of a file of tests.
     pub fn empty(tests: &str, name: &str) -> Place {
         let alone = ALONE.lock().unwrap_or_else(PoisonError::into_inner);
-        let root = PathBuf::from(env!("CARGO_TARGET_TMPDIR"))
-            .join(tests)
+        let root = env::temp_dir()
+            .join(format!("weighhare-{tests}-{}", process::id()))
             .join(name);
         if root.exists() {
             fs::remove_dir_all(&root).expect("a folder of an earlier run to remove");
         }
         fs::create_dir_all(&root).expect("a folder to make");
         Place {
-            root,
+            root: Root(root),
             _alone: alone,
         }
     }
 
     pub fn path(&self, name: &str) -> PathBuf {
-        self.root.join(name)
+        self.root.0.join(name)
     }
 
     pub fn exists(&self, name: &str) -> bool {
@@ -104,7 +108,7 @@ impl Place {
 
     /// Writes a program in sh.
     pub fn stand_in(&self, name: &str, text: &str) {
-        let text = format!("#!/bin/sh\nroot='{}'\n{text}", self.root.display());
+        let text = format!("#!/bin/sh\nroot='{}'\n{text}", self.root.0.display());
         self.write(name, text.as_bytes());
         self.set_mode(name, 0o755);
     }
@@ -123,7 +127,7 @@ impl Place {
             .arg("-c")
             .arg(format!("exec \"$0\" \"$@\" {redirection}"))
             .arg(script)
-            .current_dir(&self.root)
+            .current_dir(&self.root.0)
             .stdin(Stdio::null())
             .stdout(output("stdout"))
             .stderr(output("stderr"))
@@ -213,6 +217,14 @@ impl Place {
             stdout: read("stdout"),
             stderr: read("stderr"),
         }
+    }
+}
+
+impl Drop for Root {
+    /// The folder of all goes with the last that is in it.
+    fn drop(&mut self) {
+        let _ = fs::remove_dir_all(&self.0);
+        let _ = self.0.parent().map(fs::remove_dir);
     }
 }
 
