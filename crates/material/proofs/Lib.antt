@@ -1,4 +1,4 @@
--- Laws of the functions, and what walks by hand share.
+-- Laws of the functions.
 pub mod LengthLaws
 pub mod SizeLaws
 pub mod FileLaws

@@ -13,9 +13,8 @@ try_gate-s-requires c = asks_0 _ _ _ _ _ _ (search rules) (search rules) _ _ _ c
 
 pub loop-s-smaller : goal.loop-s-smaller
 loop-s-smaller c =
-    let s = c.loop-s in
-    turns_fewer _ _ _ _ _ _ (search rules) (search rules) _ _ s.invariant (omega (arith, c.loop-s-test.true)) _ _
-    (turn_0 _ _ _ _ _ _ (search rules) (search rules) _ _ s.invariant _ c.seen.ensures.same c.seen.ensures.fits _ _ refl c.loop-s-test.true refl c.try_gate-s.ensures)
+    turns_fewer _ _ _ _ _ _ (search rules) (search rules) _ _ c.loop-s.invariant (omega (arith, c.loop-s-test.true)) _ _
+    (turn_0 _ _ _ _ _ _ (search rules) (search rules) _ _ c.loop-s.invariant _ c.seen.ensures.same c.seen.ensures.fits _ _ refl c.loop-s-test.true refl c.try_gate-s.ensures)
 
 pub loop-s-preserved : goal.loop-s-preserved
 loop-s-preserved c =
