@@ -9,11 +9,12 @@ use mathlib.Core.List.{List, [], ◌∷◌, ◌++◌}
 use borrow.Author.Tests.{le-ltb, le-leb, eq-eqb}
 use lib.ListN.{length, get_or, drop, length-append, length-drop, get_or-append}
 use lib.Seq.{get_or-drop, get_or-append-add}
+use Rattle.model.specs.declared.Garbled.{Garbled}
 use Rattle.model.specs.declared.Wanted.{Wanted}
 use Rattle.model.specs.Bytes.{be16, two}
 use Rattle.model.specs.Circuit.{circuit_of, mark_at, inputs, outputs, gates, named, record_at, gate_at, output_record_at, output_at, last_wires, most_outputs, sizes_hold, circuit_length}
 use Rattle.model.specs.Refusals.{Verdict, fine, refuse, ◌then◌, head_verdict, record_verdict, output_verdict, outputs_verdict, circuit_verdict}
-use Rattle.model.specs.Operations.{Answer, Made, sizes_of, plain_verdict, file_length, garble_verdict, garble_made, encode_verdict, evaluate_verdict, evaluate_calls_of, output_tokens_verdict, decode_verdict, PlainIs, GarbleIs, EncodeIs, EvaluateIs, OutputTokensIs, DecodeIs}
+use Rattle.model.specs.Operations.{Answer, sizes_of, plain_verdict, file_length, garble_verdict, garble_made, encode_verdict, evaluate_verdict, evaluate_calls_of, output_tokens_verdict, decode_verdict, PlainIs, GarbleIs, EncodeIs, EvaluateIs, OutputTokensIs, DecodeIs}
 use Rattle.model.specs.Kept.{output_bytes, named_of, StandsFor}
 use Rattle.model.proofs.Lists.{from_cong, tabulate_length, entry}
 use Rattle.model.proofs.Accepted.{SizesHold, sizes_kept, accepted_header}
@@ -70,7 +71,7 @@ module _ (c d : List ℕ) (a : Alike c d) where
     left = rw (a.same_verdict, a.same_n, a.same_q, a.same_circuit) p.left;
   }
 
-  garble_too : (seed : List ℕ) (want : Wanted) (m z o : List ℕ) (r : Answer Made) (m' z' o' : List ℕ)
+  garble_too : (seed : List ℕ) (want : Wanted) (m z o : List ℕ) (r : Answer Garbled) (m' z' o' : List ℕ)
       → GarbleIs c seed want m z o r m' z' o' → GarbleIs d seed want m z o r m' z' o'
   unfolding garble_verdict garble_made file_length
   garble_too seed want m z o r m' z' o' p = record {

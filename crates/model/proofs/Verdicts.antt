@@ -4,13 +4,15 @@ use native.Mathlib.Nat.{add-zero, add-suc, le_of_suc-le-suc, eq-or-lt_of_le, not
 use native.Mathlib.Numerals.{add-one}
 use native.Mathlib.Omega.{arith}
 use mathlib.Core.Logic.{⊎_elim}
-use mathlib.Core.Path.{◌≡◌, refl, sym}
+use mathlib.Core.Path.{◌≡◌, refl, sym, ap, ◌∙◌}
 use mathlib.Core.Bool.{Bool, true, false, ◌&&◌, ◌||◌}
 use lib.Bits.{bit_or, or_add_and, and_le_l, and_le_r}
-use Rattle.model.specs.declared.Ran.{Ran}
+use Rattle.std.specs.Prelude.{Result, Ok, Err}
+use Rattle.std.specs.Result.{IsErrAnd}
+use Rattle.std.proofs.lemmas.Result.{err_from_is_err_and}
 use Rattle.model.specs.declared.Refusal.{Refusal}
 use Rattle.model.specs.Refusals.{Verdict, fine, refused, refuse, ◌then◌, first_of, verdict_of}
-use Rattle.model.specs.Operations.{no, yes, answer, ran_of}
+use Rattle.model.specs.Operations.{Answer, no, yes, answer, answer_of, ran_of}
 
 -- ---- what `fine` tells
 
@@ -60,15 +62,26 @@ then_assoc fine v w = refl
 then_assoc (refused i x) v w = refl
 
 -- a step that answered r
-module _ (r : Ran) (v : Verdict) (is_r : ran_of r ≡ v) where
-  pub ran_refused : (f : Refusal) → r ≡ Ran.Refused f → verdict_of f ≡ v
+module _ (r : Result Unit Refusal) (v : Verdict) (is_r : ran_of r ≡ v) where
+  pub ran_refused : (f : Refusal) → r ≡ Err f → verdict_of f ≡ v
   ran_refused f e = rw e at is_r
 
-  pub ran_done : r ≡ Ran.Done → fine ≡ v
+  pub ran_done : r ≡ Ok tt → fine ≡ v
   ran_done e = rw e at is_r
 
+-- a refusal that `?` hands on: r is what is answered
+module _ {A : Type 0} (r : Result A Refusal) (f : Refusal) (handed_on : IsErrAnd r (λ e. e ≡ f)) where
+  pub passed : r ≡ Err f
+  passed = let p = err_from_is_err_and r handed_on in p.1 ∙ ap Err p.2
+
+  pub no_passed : (v : Answer A) → no (verdict_of f) ≡ v → answer_of r ≡ v
+  no_passed v e = rw passed e
+
+pub ran_passed : (r : Result Unit Refusal) (f : Refusal) → IsErrAnd r (λ e. e ≡ f) → (v : Verdict) → verdict_of f ≡ v → ran_of r ≡ v
+ran_passed r f h v e = rw (passed r f h) e
+
 -- whatever a chain of steps answers
-pub ruleset steps = (then_refused, then_done, ran_refused, ran_done)
+pub ruleset steps = (then_refused, then_done, ran_refused, ran_done, ran_passed, no_passed)
 
 -- ---- a search by index
 
@@ -104,6 +117,20 @@ module _ (f : ℕ → Verdict) where
   unfolding first_of ◌then◌
   first_all zero h = refl
   first_all (suc q) h = rw (first_all q (λ k l. h k (omega arith)), h q (omega arith))
+
+-- a search whose turn k answered r: it goes on, or this is the fault that it tells
+module _ (f : ℕ → Verdict) (k : ℕ) (so_far : first_of f k ≡ fine) (r : Result Unit Refusal) (is_r : ran_of r ≡ f k) where
+  pub search_turn : r ≡ Ok tt → first_of f (k + 1) ≡ fine
+  search_turn e = first_next f k so_far (sym (ran_done r _ is_r e))
+
+  pub search_fault : (m : ℕ) → k < m → (e : Refusal) → r ≡ Err e → verdict_of e ≡ first_of f m
+  search_fault m more e g = sym (first_found f k m _ _ so_far more (sym (ran_refused r _ is_r e g)))
+
+pub search_start : (f : ℕ → Verdict) → first_of f 0 ≡ fine
+unfolding first_of
+search_start f = refl
+
+pub ruleset search_cases = (search_start, search_turn, search_fault)
 
 -- searches that find the same at each index
 pub first_same : (f g : ℕ → Verdict) (q : ℕ) → ((k : ℕ) → k < q → f k ≡ g k) → first_of f q ≡ first_of g q

@@ -1,6 +1,7 @@
 -- What document 02 says of what was there before, a part for each job that says so. The theorems are in proofs/Kept.antt.
 use Rattle.std.specs.Prelude.{ℕ, ◌+◌, ◌*◌, ◌-◌, ◌≤◌, ◌<◌, ◌≡◌, ◌↔◌, Bool, true, false, not, cond, ◌&&◌, ◌||◌, List, [], ◌∷◌, ◌++◌, map, eqb, leb, ltb, length, get_or, take, drop}
 use Rattle.std.specs.Int.Bits.{differ}
+use Rattle.model.specs.declared.Garbled.{Garbled}
 use Rattle.model.specs.declared.Gate.{Gate}
 use Rattle.model.specs.declared.Sizes.{Sizes}
 use Rattle.model.specs.declared.Wanted.{Wanted}
@@ -18,7 +19,7 @@ use Rattle.model.specs.Material.{join_blocks, last_start, material_length, hashe
 use Rattle.model.specs.Evaluation.{cut, open_at, open_step, past, open_gates, evaluate, decode, output_tokens}
 use Rattle.model.specs.Calls.{garble_calls}
 use Rattle.model.specs.Refusals.{Verdict, fine, refuse, ◌then◌, first_of, is_refused, is_charged, circuit_verdict, seed_verdict, scheme_verdict, circuit_sizes, same_sizes, file_verdict, row_record_at, row_verdict, last_verdict, material_verdict, room_verdict, unknown_verdict, clash_verdict}
-use Rattle.model.specs.Operations.{Answer, Made, made, sizes_of, garble_verdict, garble_made, PlainIs, GarbleIs, EncodeIs, EvaluateIs, OutputTokensIs, DecodeIs}
+use Rattle.model.specs.Operations.{Answer, made, sizes_of, garble_verdict, garble_made, PlainIs, GarbleIs, EncodeIs, EvaluateIs, OutputTokensIs, DecodeIs}
 
 -- ==== Job 2, gates that use one operand
 
@@ -288,7 +289,7 @@ pub record StandsFor (s : List ℕ) : Type 0 where
   pub same_circuit : circuit_of (named_of s) ≡ circuit_of s
   pub same_sizes_kept : sizes_of (named_of s) ≡ sizes_of s
   pub plain : (v o : List ℕ) (r : Verdict) (x : List ℕ) → PlainIs s v o r x ↔ PlainIs (named_of s) v o r x
-  pub garble : (seed : List ℕ) (want : Wanted) (m z o : List ℕ) (r : Answer Made) (m' z' o' : List ℕ)
+  pub garble : (seed : List ℕ) (want : Wanted) (m z o : List ℕ) (r : Answer Garbled) (m' z' o' : List ℕ)
       → GarbleIs s seed want m z o r m' z' o' ↔ GarbleIs (named_of s) seed want m z o r m' z' o'
   pub encode : (v zs os o : List ℕ) (r : Verdict) (x : List ℕ) → EncodeIs s v zs os o r x ↔ EncodeIs (named_of s) v zs os o r x
   pub evaluate : (ts f o : List ℕ) (r : Answer ℕ) (x : List ℕ) → EvaluateIs s ts f o r x ↔ EvaluateIs (named_of s) ts f o r x
@@ -341,7 +342,7 @@ garble_verdict01 c seed want km kz ko =
     then room_verdict (16 * (inputs c + gates c)) kz
     then room_verdict (16 * inputs c) ko
 
-unfoldable pub garble_made01 : List ℕ → List ℕ → Wanted → Made
+unfoldable pub garble_made01 : List ℕ → List ℕ → Wanted → Garbled
 garble_made01 c seed want =
     made (material_length want.scheme (outputs c) (charges (circuit_of c).gates))
     (garble_calls (garbling_of c seed want) (circuit_of c).gates (input_zeros (garbling_of c seed want)))

@@ -1,11 +1,8 @@
 -- Document 01, "Operations". Each answer and each buffer at exit, for every argument.
-use Rattle.std.specs.Prelude.{ℕ, ◌+◌, ◌*◌, ◌≡◌, List, [], cond, length, get_or, drop, replicate, ltb, eqb}
+use Rattle.std.specs.Prelude.{ℕ, ◌+◌, ◌*◌, ◌≡◌, List, [], Result, Ok, Err, cond, length, get_or, drop, replicate, ltb, eqb}
 use Rattle.model.specs.declared.Sizes.{Sizes}
-use Rattle.model.specs.declared.Checked.{Checked}
-use Rattle.model.specs.declared.Ran.{Ran}
+use Rattle.model.specs.declared.Refusal.{Refusal}
 use Rattle.model.specs.declared.Garbled.{Garbled}
-use Rattle.model.specs.declared.Evaluated.{Evaluated}
-use Rattle.model.specs.declared.Wrote.{Wrote}
 use Rattle.model.specs.declared.Gate.{Gate}
 use Rattle.model.specs.declared.Wanted.{Wanted}
 use Rattle.model.specs.Bytes.{over}
@@ -22,6 +19,16 @@ pub data Answer (A : Type 0) : Type 0 where
   no : Verdict → Answer A
   yes : A → Answer A
 
+-- what the code answers: its results, or the refusal
+abbrev pub answer_of : {A : Type 0} → Result A Refusal → Answer A
+answer_of (Ok x) = yes x
+answer_of (Err f) = no (verdict_of f)
+
+-- the same where there are no results but the bytes that are written
+abbrev pub ran_of : Result Unit Refusal → Verdict
+ran_of (Ok x) = fine
+ran_of (Err f) = verdict_of f
+
 -- the results, if nothing refuses
 abbrev pub answer : {A : Type 0} → Verdict → A → Answer A
 answer fine a = yes a
@@ -37,18 +44,10 @@ written (refused i x) new old = old
 unfoldable pub sizes_of : List ℕ → Sizes
 sizes_of s = record { n = inputs s; m = outputs s; q = gates s; p = charges (circuit_of s).gates }
 
-abbrev pub checked_of : Checked → Answer Sizes
-checked_of (Checked.Accepted z) = yes z
-checked_of (Checked.Refused f) = no (verdict_of f)
-
 abbrev pub check_answer : List ℕ → Answer Sizes
 check_answer s = answer (circuit_verdict s) (sizes_of s)
 
 -- ---- "Plain: value list (n bytes) to a value byte for every wire (n+q bytes)."
-
-abbrev pub ran_of : Ran → Verdict
-ran_of Ran.Done = fine
-ran_of (Ran.Refused f) = verdict_of f
 
 -- 1 to 7, 25, 26, 9, 10, 19: c is the circuit's bytes, v the value list, and room the length of the buffer
 unfoldable pub plain_verdict : List ℕ → List ℕ → ℕ → Verdict
@@ -80,15 +79,11 @@ garble_verdict c seed want km kz ko =
     then room_verdict (16 * (inputs c + gates c)) kz
     then room_verdict (16 * inputs c) ko
 
-pub data Made : Type 0 where
-  made : (length calls : ℕ) → Made
-
-abbrev pub garbled_of : Garbled → Answer Made
-garbled_of (Garbled.Done l k) = yes (made l k)
-garbled_of (Garbled.Refused f) = no (verdict_of f)
+abbrev pub made : ℕ → ℕ → Garbled
+made l k = record { length = l; calls = k }
 
 -- "Returns the material's length and the calls of π made"
-unfoldable pub garble_made : List ℕ → List ℕ → Wanted → Made
+unfoldable pub garble_made : List ℕ → List ℕ → Wanted → Garbled
 garble_made c seed want =
     made (file_length c want)
     (garble_calls (garbling_of c seed want) (circuit_of c).gates (input_zeros (garbling_of c seed want)) + output_calls (garbling_of c seed want))
@@ -100,7 +95,7 @@ wiped fine new = new
 wiped (refused i x) new = replicate (length new) 0
 
 -- garble's answer r, and its three buffers: m, z, o at entry and m', z', o' at exit
-pub record GarbleIs (c seed : List ℕ) (want : Wanted) (m z o : List ℕ) (r : Answer Made) (m' z' o' : List ℕ) : Type 0 where
+pub record GarbleIs (c seed : List ℕ) (want : Wanted) (m z o : List ℕ) (r : Answer Garbled) (m' z' o' : List ℕ) : Type 0 where
   pub answered : r ≡ answer (garble_verdict c seed want (length m) (length z) (length o) then clash_verdict (garbling_of c seed want)) (garble_made c seed want)
   pub material_left : m' ≡ written (garble_verdict c seed want (length m) (length z) (length o)) (wiped (clash_verdict (garbling_of c seed want)) (material (garbling_of c seed want))) m
   pub zeros_left : z' ≡ written (garble_verdict c seed want (length m) (length z) (length o)) (wiped (clash_verdict (garbling_of c seed want)) (join_blocks (zero_tokens (garbling_of c seed want)))) z
@@ -130,10 +125,6 @@ evaluate_verdict c ts s room =
     then tokens_verdict (inputs c) ts
     then material_verdict (circuit_of c) s
     then room_verdict (16 * (inputs c + gates c)) room
-
-abbrev pub evaluated_of : Evaluated → Answer ℕ
-evaluated_of (Evaluated.Done k) = yes k
-evaluated_of (Evaluated.Refused f) = no (verdict_of f)
 
 -- the encryptions made, from the circuit, the input tokens and the material
 unfoldable pub evaluate_calls_of : List ℕ → List ℕ → List ℕ → ℕ
@@ -192,9 +183,3 @@ part_of (refused i x) part = []
 
 unfoldable pub pick_part : List ℕ → List ℕ → ℕ → ℕ → List ℕ
 pick_part zs os w bit = part_of (pick_verdict zs os w bit) (token_at (cond (eqb bit 0) zs os) w)
-
--- ---- "What writes a circuit or a text returns its length." (02, job 1)
-
-abbrev pub wrote_of : Wrote → Answer ℕ
-wrote_of (Wrote.Done l) = yes l
-wrote_of (Wrote.Refused f) = no (verdict_of f)

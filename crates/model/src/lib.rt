@@ -2,21 +2,33 @@
 
 #![tactic(auto)]
 
+ghost use Rattle.std.specs.Prelude.{◌≤◌};
+
 // A wire number, from 1 (01, Circuit). It lies as in C, since `Gate` has two of them.
 #[repr(C)]
-#[derive(Clone, Copy)]
+#[derive(Clone, Copy, PartialEq, Eq, PartialOrd, Ord)]
 pub struct Wire(pub u16);
 
 // A truth value, 0 or 1: what the plain circuit carries on a wire (01, Circuit; "semantics" in source 000).
+// A byte, and not a bool or an enum: it stands as a byte in buffers, is exclusive-ored and made a mask, and no branch
+// may go by it (constant time). The same of a colour.
 #[derive(Clone, Copy)]
-pub struct Truth(pub u8);
+pub struct Truth {
+    pub bit: u8,
+    ghost is_bit: { bit ≤ 1 },
+}
 
 // The colour of a token, 0 or 1 (01, Tokens; the permute bit, "type" in source 000). It is not a truth value.
 #[derive(Clone, Copy)]
-pub struct Colour(pub u8);
+pub struct Colour {
+    pub bit: u8,
+    ghost is_bit: { bit ≤ 1 },
+}
 
 // A gate as a circuit has it: two operands, which are wires, and a code, which is its truth table (01, Circuit).
 // Its fields lie as in C, so that a caller in C can hand in a list of them.
+// The code is any byte, as a file or a caller in C may have it. The gate's own wire is no field, since it comes of the
+// gate's place among the others: whoever needs it is handed it beside the gate.
 #[repr(C)]
 #[derive(Clone, Copy)]
 pub struct Gate {
@@ -25,17 +37,33 @@ pub struct Gate {
     pub code: u8,
 }
 
-// What a code means (01, Circuit and Scheme 3).
+// An AND-type gate: the pair u, v of truth values that has a value of its own, and that value (01, Circuit and Scheme 3).
+#[derive(Clone, Copy)]
+pub struct AndGate {
+    pub u: Truth,
+    pub v: Truth,
+    pub own: Truth,
+}
+
+// A free-XOR gate: its value is pu ⊕ qv ⊕ c. c is its value at 0,0, and p and q are by how much it changes with u and with v.
+#[derive(Clone, Copy)]
+pub struct XorGate {
+    pub p: Truth,
+    pub q: Truth,
+    pub c: Truth,
+}
+
+// What a code means: a gate that is charged, one that is free, or none.
+// Three cases, as in the model's own `Kind`: an `Option` around two would have the same three in each match over it,
+// each of two words (`Some(Kind::Charged(g))`).
 #[derive(Clone, Copy)]
 pub enum Kind {
-    // An AND-type gate: the pair u, v of truth values that has a value of its own, and that value.
-    Charged(Truth, Truth, Truth),
-    // A free-XOR gate: its value is pu ⊕ qv ⊕ c. c is its value at 0,0, and p and q are by how much it changes with u and with v.
-    Free { p: Truth, q: Truth, c: Truth },
+    Charged(AndGate),
+    Free(XorGate),
     Refused,
 }
 
-// A refusal, a case for each number of 01's list and of 02's, with what its place is made from.
+// A refusal, which an operation answers as its error: a case for each number of 01's list and of 02's, with what its place is made from.
 // `number_of` and `place_of` of specs/Refusals.antt give each case its number and its place.
 #[derive(Clone, Copy)]
 pub enum Refusal {
@@ -72,6 +100,11 @@ pub enum Refusal {
 }
 
 // A circuit's sizes: inputs, outputs, gates, charged gates (01, Circuit).
+// No invariant holds of them, since `sizes_of` of the model gives sizes to any bytes: so `Bounded` and `Accepted` stand
+// in the contracts of whoever needs them. A function over a circuit takes its bytes and its sizes side by side:
+// contracts name the bytes alone, which in a struct of both would be `circuit.now.bytes.now` each time. The numbers are
+// usize, as sums and indices are made of them; that one is below 65,536 is asked only where a sum or a product must
+// fit.
 #[derive(Clone, Copy)]
 pub struct Sizes {
     pub n: usize,
@@ -82,6 +115,7 @@ pub struct Sizes {
 
 // What garbling is asked for beside the circuit and the seed: the run number (02, job 4), the scheme by its byte (01, Operations), and the
 // material's mark (02, job 12), 47 48 or 47 4A.
+// Scheme and mark are numbers, since garble takes any: it refuses all others by 14 and 13 (`GarbleIs`).
 #[derive(Clone, Copy)]
 pub struct Wanted {
     pub run: u64,
@@ -89,37 +123,9 @@ pub struct Wanted {
     pub mark: u16,
 }
 
-// The answer of check.
+// What garble answers where nothing refuses: the material's length, and the encryptions made.
 #[derive(Clone, Copy)]
-pub enum Checked {
-    Accepted(Sizes),
-    Refused(Refusal),
-}
-
-// The answer of an operation whose only results are the bytes that it writes.
-#[derive(Clone, Copy)]
-pub enum Ran {
-    Done,
-    Refused(Refusal),
-}
-
-// The answer of garble: the material's length and the encryptions, or the refusal.
-#[derive(Clone, Copy)]
-pub enum Garbled {
-    Done { length: usize, calls: usize },
-    Refused(Refusal),
-}
-
-// The answer of evaluate: the encryptions, or the refusal.
-#[derive(Clone, Copy)]
-pub enum Evaluated {
-    Done(usize),
-    Refused(Refusal),
-}
-
-// The answer of what writes a circuit or a text: its length (02, job 1), or the refusal.
-#[derive(Clone, Copy)]
-pub enum Wrote {
-    Done(usize),
-    Refused(Refusal),
+pub struct Garbled {
+    pub length: usize,
+    pub calls: usize,
 }
