@@ -1,9 +1,13 @@
--- A state from its columns. Assumes nothing.
-use mathlib.Core.Path.{◌≡◌}
-use Prim.Native.Nat.{ℕ}
+-- A state from its columns, or from its bytes. Assumes nothing.
+use mathlib.Core.Path.{◌≡◌, sym, ◌∙◌}
+use Prim.Native.Nat.{ℕ, ◌<◌}
+use native.Mathlib.Omega.{arith}
 use mathlib.Core.List.{List, [], ◌∷◌}
-use lib.ListN.{get_or}
+use lib.ListN.{length, get_or}
+use Rattle.std.proofs.lemmas.List.{ext_get_or}
+use Rattle.model.specs.Bytes.{tabulate}
 use Rattle.model.specs.Aes.{Block}
+use Rattle.model.proofs.Lists.{tabulate_length, entry}
 
 -- the state of four columns
 abbrev columns : List ℕ → List ℕ → List ℕ → List ℕ → Block
@@ -12,3 +16,7 @@ columns a b c d =
 
 pub joined : {a b c d a' b' c' d' : List ℕ} → a ≡ a' → b ≡ b' → c ≡ c' → d ≡ d' → columns a b c d ≡ columns a' b' c' d'
 joined p q r s = cc
+
+-- a state from its bytes, one by one
+pub tabled : (n : ℕ) (f : ℕ → ℕ) (r : List ℕ) → length r ≡ n → ((i : ℕ) → i < n → get_or r i 0 ≡ f i) → r ≡ tabulate n f
+tabled n f r l e = ext_get_or 0 r (tabulate n f) (l ∙ sym (tabulate_length n f)) (λ i h. e i (omega (arith, l)) ∙ sym (entry 0 n f i (omega (arith, l))))

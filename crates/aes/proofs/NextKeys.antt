@@ -1,30 +1,30 @@
 -- Key expansion by packed words: the key of a round from that of the round before, and the loop that makes it beside the rounds. Assumes nothing.
 use mathlib.Core.Path.{◌≡◌, refl, sym, ap, ap₂, ◌∙◌}
-use mathlib.Core.List.{List, [], ◌∷◌}
+use mathlib.Core.List.{List}
 use Prim.Native.Nat.{ℕ, zero, suc, ◌+◌, ◌-◌, ◌*◌, ◌/◌, ◌%◌, ◌^◌, ◌<◌, ◌≤◌}
 use native.Mathlib.Omega.{arith}
-use lib.Bits.{bit_xor}
+use lib.Bits.{bit_or, bit_xor}
+use Rattle.std.specs.Int.Bits.{or_shifted_r}
 use lib.ListN.{length}
+use Rattle.std.specs.Int.{w32, rotate_right}
 use Rattle.model.specs.Aes.{Block, ◌⊕◌, sub_bytes, shift_rows, mix_columns, word, xor_word, rot_word, sub_word, rcon, xtime, power_of_x, next_word, IsExpansion, key_expansion, aes}
 use Rattle.model.proofs.Mix.{xtime_byte}
 use Rattle.model.proofs.Expansion.{temp_first, temp_other, expansion_is}
 use Rattle.aes.specs.declared.packed.Words.{Words}
-use Rattle.aes.specs.Tables.{byte_of, word_of, state_of}
+use Rattle.aes.specs.Tables.{word_of, state_of}
 use Rattle.aes.specs.Round.{IsRoundKey, NextKey}
-use Rattle.aes.proofs.Packing.{four, packed, bytes, word_xor}
+use Rattle.aes.proofs.Packing.{four, word_xor}
 use Rattle.aes.proofs.Rounds.{Through, rounds_start, rounds_turn, rounds_end, by_key, added, round_keyed}
 
 -- ---- RotWord and the round constants
 
-pub rotates : (x : ℕ) → x < 2 ^ 32 → word_of (x / 2 ^ 8 + x * 2 ^ 24 % 2 ^ 32) ≡ rot_word (word_of x)
+pub rotates : (x : ℕ) → x < 2 ^ 32 → word_of (rotate_right w32 x 8) ≡ rot_word (word_of x)
+unfolding word_of
 rotates x h =
-    let a : ℕ = x % 256 in
-    let b : ℕ = x / 0x100 % 256 in
-    let c : ℕ = x / 0x10000 % 256 in
-    let d : ℕ = x / 0x1000000 in
-    let high : x / 2 ^ 8 ≡ b + c * 0x100 + d * 0x10000 = omega arith in
-    let low : x * 2 ^ 24 % 2 ^ 32 ≡ a * 0x1000000 = omega arith in
-    ap₂ (λ (y z : ℕ). word_of (y + z)) high low ∙ packed b c d a (omega arith) (omega arith) (omega arith) (omega arith) ∙ ap rot_word (bytes x h)
+    let high : x * 2 ^ 24 % 2 ^ 32 ≡ x % 256 * 2 ^ 24 = omega arith in
+    let whole : bit_or (x / 2 ^ 8) (x * 2 ^ 24 % 2 ^ 32) ≡ x % 256 * 2 ^ 24 + x / 2 ^ 8 =
+    ap (bit_or (x / 2 ^ 8)) high ∙ or_shifted_r (x % 256) 24 (x / 2 ^ 8) (omega arith) in
+    rw whole (four (omega arith) (omega arith) (omega arith) (omega arith))
 
 pub doubles : (rc : ℕ) → rc < 256 → bit_xor (rc * 2 ^ 1 % 2 ^ 32) (rc / 2 ^ 7 * 0x11B) ≡ xtime rc
 unfolding xtime
@@ -46,14 +46,14 @@ constant_word k =
 
 -- ---- the four words of the next key: x is the last word rotated, and s that substituted
 
-pub next_made : (k : Words) (rc x s : ℕ) → word_of x ≡ rot_word (word_of k.d) → word_of s ≡ sub_word (byte_of x 0 ∷ byte_of x 1 ∷ byte_of x 2 ∷ byte_of x 3 ∷ []) →
+pub next_made : (k : Words) (rc x s : ℕ) → word_of x ≡ rot_word (word_of k.d) → word_of s ≡ sub_word (word_of x) →
     let a = bit_xor k.a (bit_xor s rc) in
     let b = bit_xor k.b a in
     let c = bit_xor k.c b in
     NextKey k rc (record { a = a; b = b; c = c; d = bit_xor k.d c })
 next_made k rc x s is_x is_s =
     record {
-      is_a = word_xor _ _ ∙ ap (xor_word (word_of k.a)) (word_xor s rc ∙ ap (λ (y : List ℕ). xor_word y (word_of rc)) (is_s ∙ ap sub_word (unfold word_of in is_x)));
+      is_a = word_xor _ _ ∙ ap (xor_word (word_of k.a)) (word_xor s rc ∙ ap (λ (y : List ℕ). xor_word y (word_of rc)) (is_s ∙ ap sub_word is_x));
       is_b = word_xor _ _;
       is_c = word_xor _ _;
       is_d = word_xor _ _;

@@ -1,23 +1,26 @@
 -- Words packed in numbers, row 0 lowest: their bytes, masks, and exclusive or. Assumes nothing.
-use mathlib.Core.Path.{◌≡◌, refl, ap, ◌∙◌}
+use mathlib.Core.Path.{◌≡◌, refl, sym, ap, ◌∙◌}
 use mathlib.Core.List.{List, [], ◌∷◌}
-use Prim.Native.Nat.{ℕ, ◌+◌, ◌*◌, ◌/◌, ◌%◌, ◌^◌, ◌<◌}
+use Prim.Native.Nat.{ℕ, ◌*◌, ◌/◌, ◌%◌, ◌^◌, ◌<◌}
 use native.Mathlib.Omega.{arith}
 use lib.Bits.{bit_and, bit_xor, and_shr, and_mod, and_mask, and_zero_r, xor_shr, xor_mod, xor_zero_r}
+use lib.ListN.{length, get_or}
+use Rattle.std.specs.Int.{w32, from_le_bytes, to_le_bytes}
+use Rattle.std.proofs.lemmas.Nat.{le_bytes_4}
 use Rattle.model.specs.Aes.{xor_word}
 use Rattle.aes.specs.Tables.{byte_of, word_of}
 
 pub four : {a b c d a' b' c' d' : ℕ} → a ≡ a' → b ≡ b' → c ≡ c' → d ≡ d' → ◌≡◌ {A = List ℕ} (a ∷ b ∷ c ∷ d ∷ []) (a' ∷ b' ∷ c' ∷ d' ∷ [])
 four p q r s = cc
 
--- four bytes as a number, and a number's bytes
-pub packed : (a b c d : ℕ) → a < 256 → b < 256 → c < 256 → d < 256 → word_of (a + b * 0x100 + c * 0x10000 + d * 0x1000000) ≡ a ∷ b ∷ c ∷ d ∷ []
+-- the bytes of a word, as std has them
+pub bytes : (x : ℕ) → to_le_bytes w32 x ≡ word_of x
 unfolding word_of
-packed a b c d ha hb hc hd = four (omega arith) (omega arith) (omega arith) (omega arith)
+bytes x = four (omega arith) refl refl refl
 
-pub bytes : (x : ℕ) → x < 2 ^ 32 → ◌≡◌ {A = List ℕ} (x % 256 ∷ x / 0x100 % 256 ∷ x / 0x10000 % 256 ∷ x / 0x1000000 ∷ []) (word_of x)
-unfolding word_of
-bytes x h = four (omega arith) refl refl (omega arith)
+-- and a word of four bytes
+pub packed : (b : List ℕ) (x : ℕ) → length b ≡ 4 → ((i : ℕ) → get_or b i 0 < 256) → x ≡ from_le_bytes w32 b → word_of x ≡ b
+packed b x l fits e = sym (bytes x) ∙ le_bytes_4 b x l fits e
 
 byte_xor : (x y r : ℕ) → byte_of (bit_xor x y) r ≡ bit_xor (byte_of x r) (byte_of y r)
 byte_xor x y r = ap (λ (n : ℕ). n % 256) (xor_shr x y (8 * r)) ∙ xor_mod (x / 2 ^ (8 * r)) (y / 2 ^ (8 * r)) 8

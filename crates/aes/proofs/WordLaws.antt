@@ -1,31 +1,19 @@
 -- A word read from a key or a schedule, a word written to one, and the two loops of the key expansion, which write one a turn. Assumes nothing.
 use mathlib.Core.Path.{◌≡◌, refl, sym, ap, ◌∙◌}
 use mathlib.Core.List.{List, [], ◌∷◌, ◌++◌, append_assoc}
-use Prim.Native.Nat.{ℕ, suc, ◌+◌, ◌-◌, ◌*◌, ◌/◌, ◌%◌, ◌<◌, ◌≤◌}
+use Prim.Native.Nat.{ℕ, ◌+◌, ◌-◌, ◌*◌, ◌/◌, ◌%◌, ◌<◌, ◌≤◌}
 use native.Mathlib.Nat.{add-zero}
 use native.Mathlib.Omega.{arith}
-use lib.ListN.{length, get_or, take, drop, set, length-append}
-use lib.Seq.{sets-eq, take_at, take_all, take-take, length-take-le, drop-drop}
+use lib.ListN.{length, get_or, take, length-append}
+use lib.Seq.{take_at, take_all, take-take, length-take-le}
 use Rattle.model.specs.Bytes.{over, put}
 use Rattle.model.specs.Aes.{Block, word, xor_word, rot_word, sub_word, rcon, temp, next_word, IsExpansion}
-use Rattle.model.proofs.Lists.{elements}
 use Rattle.model.proofs.Expansion.{take_word, next_length, temp_first, temp_other, Expanded, expanded_key, expanded_more, expanded_all}
 
 -- ---- a word read, and a word written
 
 pub word_read : (w : List ℕ) (i : ℕ) → get_or w (4 * i) 0 ∷ get_or w (4 * i + 1) 0 ∷ get_or w (4 * i + 2) 0 ∷ get_or w (4 * i + 3) 0 ∷ [] ≡ word w i
 word_read w i = rw add-zero
-
-pub stores : (w x : List ℕ) (at : ℕ) → length x ≡ 4 → at + 4 ≤ length w →
-    set (set (set (set w at (get_or x 0 0)) (at + 1) (get_or x 1 0)) (at + 2) (get_or x 2 0)) (at + 3) (get_or x 3 0) ≡ put w at x
-unfolding put over
-stores w x at l h =
-    let e1 : at + 1 ≡ suc at = omega arith in
-    let e2 : at + 2 ≡ suc (suc at) = omega arith in
-    let e3 : at + 3 ≡ suc (suc (suc at)) = omega arith in
-    rw (e1, e2, e3)
-    (sets-eq (get_or x 0 0 ∷ get_or x 1 0 ∷ get_or x 2 0 ∷ get_or x 3 0 ∷ []) w at h
-    ∙ ap (λ (y : List ℕ). take at w ++ y ++ drop (at + 4) w) (elements 4 x l) ∙ rw (l, drop-drop, append_assoc))
 
 put_take : (w x : List ℕ) (i : ℕ) → length x ≡ 4 → 4 * i + 4 ≤ length w → take (4 * (i + 1)) (put w (4 * i) x) ≡ take (4 * i) w ++ x
 unfolding put over
@@ -80,10 +68,9 @@ module _ (w : List ℕ) (i : ℕ) where
   made e f g = cc
 
 -- the first loop left the key in the first 16 bytes
-pub expand_start : {key : Block} {i : ℕ} {w : List ℕ} → KeyCopied key i w → 3 < i → Expanding (take 16 w) i w
-expand_start {i = i} {w} inv h =
-    let e : i ≡ 4 = omega (arith, inv.within) in
-    record { past = h; within = omega arith; size = inv.size; so_far = rw e (expanded_key (sym (take-take 16 16 w (omega arith)))) }
+pub expand_start : {key : Block} {i : ℕ} {w : List ℕ} → KeyCopied key i w → Expanding (take 16 w) 4 w
+expand_start {w = w} inv =
+    record { past = omega arith; within = omega arith; size = inv.size; so_far = expanded_key (sym (take-take 16 16 w (omega arith))) }
 
 pub expand_turn : {key : Block} {i : ℕ} {w x w' : List ℕ} → Expanding key i w → w' ≡ put w (4 * i) x → x ≡ next_word w i → length w' ≡ 176 → i < 44 →
     Expanding key (i + 1) w'

@@ -1,7 +1,6 @@
 // The four tables of a round, 256 packed words each, as one: entry x of table r is the column that MixColumns makes of the S-box's
 // byte for x in row r and 0 in the other rows. A packed word has row 0 as its lowest byte.
-ghost use Rattle.std.specs.Prelude.{◌≡◌};
-ghost use Rattle.aes.specs.Tables.{IsTTables};
+ghost use Rattle.aes.specs.Tables.{IsTTables, IsTTables-prop};
 
 const T_TABLES: [u32; 1024] = [
     0xa56363c6, 0x847c7cf8, 0x997777ee, 0x8d7b7bf6, 0x0df2f2ff, 0xbd6b6bd6, 0xb16f6fde, 0x54c5c591,
@@ -134,9 +133,15 @@ const T_TABLES: [u32; 1024] = [
     0x82c34141, 0x29b09999, 0x5a772d2d, 0x1e110f0f, 0x7bcbb0b0, 0xa8fc5454, 0x6dd6bbbb, 0x2c3a1616,
 ];
 
-// The tables: an operation names them once, and lends them to what it calls.
-pub fn t_tables() -> [u32; 1024]
-    ensures { IsTTables result }
-{
-    T_TABLES
+// The tables: an operation makes them once, and lends them to what it calls.
+#[derive(Clone, Copy)]
+pub struct TTables {
+    pub words: [u32; 1024],
+    ghost is_t_tables: { IsTTables words } by { IsTTables-prop words },
+}
+
+impl TTables {
+    pub fn new() -> TTables {
+        TTables { words: T_TABLES }
+    }
 }

@@ -2,12 +2,16 @@
 // choice of the word that a row is taken from, SubBytes and MixColumns are one look-up for each byte, and AddRoundKey is four words.
 ghost use Rattle.std.specs.Prelude.{◌≡◌, [], ◌∷◌, ◌<◌};
 ghost use Rattle.model.specs.Aes.{◌⊕◌, word, sub_word, sub_bytes, shift_rows, mix_columns, add_round_key, aes_round};
-ghost use Rattle.aes.specs.Tables.{byte_of, word_of, state_of, IsTTables};
+ghost use Rattle.aes.specs.Tables.{byte_of, word_of, state_of};
 ghost use Rattle.aes.specs.Round.{IsRoundKey, Spread};
 
+use crate::lookup::TTables;
+use crate::schedule::word;
 use block::Block;
 
 // The four columns of a state.
+// By name and not by number, as each stays in a register and has its own place in a round: in `spread` and `shifted`
+// the names say which row goes to which column, and a loop over an array would have to work that out.
 #[derive(Clone, Copy)]
 pub struct Words {
     pub a: u32,
@@ -17,22 +21,17 @@ pub struct Words {
 }
 
 // Four bytes as a word.
-fn pack(a: u8, b: u8, c: u8, d: u8) -> u32
-    ensures { word_of result ≡ a ∷ b ∷ c ∷ d ∷ [] }
+pub fn pack(x: [u8; 4]) -> u32
+    ensures { word_of result ≡ x }
 {
-    (a as u32) + (b as u32) * 0x100 + (c as u32) * 0x10000 + (d as u32) * 0x1000000
+    u32::from_le_bytes(x)
 }
 
 // The bytes of a word.
-fn split(x: u32) -> [u8; 4]
+pub fn split(x: u32) -> [u8; 4]
     ensures { result ≡ word_of x }
 {
-    [
-        (x % 256) as u8,
-        ((x >> 8) % 256) as u8,
-        ((x >> 16) % 256) as u8,
-        (x >> 24) as u8,
-    ]
+    x.to_le_bytes()
 }
 
 // Word i of a schedule.
@@ -40,46 +39,44 @@ fn key_word(w: &[u8; 176], i: usize) -> u32
     requires { i < 44 }
     ensures { word_of result ≡ word w.now i }
 {
-    let at = 4 * i;
-    pack(w[at], w[at + 1], w[at + 2], w[at + 3])
+    pack(word(w, i))
 }
 
 // A column through SubBytes and ShiftRows alone. Table 2 has the S-box's own byte in row 0, table 3 in row 1, and so on around.
-pub fn shifted_word(tables: &[u32; 1024], a: u32, b: u32, c: u32, d: u32) -> u32
-    requires { IsTTables tables.now }
+pub fn shifted_word(tables: &TTables, a: u32, b: u32, c: u32, d: u32) -> u32
     ensures { word_of result ≡ sub_word (byte_of a 0 ∷ byte_of b 1 ∷ byte_of c 2 ∷ byte_of d 3 ∷ []) }
 {
     let p = (a % 256) as usize;
     let q = ((b >> 8) % 256) as usize;
     let r = ((c >> 16) % 256) as usize;
     let s = (d >> 24) as usize;
-    (tables[512 + p] & 0xFF)
-        ^ (tables[768 + q] & 0xFF00)
-        ^ (tables[r] & 0xFF0000)
-        ^ (tables[256 + s] & 0xFF000000)
+    let m = &tables.words;
+    (m[512 + p] & 0xFF) ^ (m[768 + q] & 0xFF00) ^ (m[r] & 0xFF0000) ^ (m[256 + s] & 0xFF000000)
 }
 
-impl Words {
-    // A block's columns.
-    pub fn of_block(x: Block) -> Words
-        ensures { state_of result ≡ x.bytes }
-    {
+// A block's columns.
+impl From<Block> for Words {
+    ghost from_gives = { λ x k. state_of k ≡ x.bytes };
+
+    fn from(x: Block) -> Words {
         let s = x.bytes;
-        let a = pack(s[0], s[1], s[2], s[3]);
-        let b = pack(s[4], s[5], s[6], s[7]);
-        let c = pack(s[8], s[9], s[10], s[11]);
-        let d = pack(s[12], s[13], s[14], s[15]);
+        let a = pack([s[0], s[1], s[2], s[3]]);
+        let b = pack([s[4], s[5], s[6], s[7]]);
+        let c = pack([s[8], s[9], s[10], s[11]]);
+        let d = pack([s[12], s[13], s[14], s[15]]);
         Words { a, b, c, d }
     }
+}
 
-    // The block of these columns.
-    fn block(self) -> Block
-        ensures { result.bytes ≡ state_of self }
-    {
-        let a = split(self.a);
-        let b = split(self.b);
-        let c = split(self.c);
-        let d = split(self.d);
+// The block of these columns.
+impl From<Words> for Block {
+    ghost from_gives = { λ k x. x.bytes ≡ state_of k };
+
+    fn from(k: Words) -> Block {
+        let a = split(k.a);
+        let b = split(k.b);
+        let c = split(k.c);
+        let d = split(k.d);
         Block {
             bytes: [
                 a[0], a[1], a[2], a[3], b[0], b[1], b[2], b[3], c[0], c[1], c[2], c[3], d[0], d[1],
@@ -87,10 +84,11 @@ impl Words {
             ],
         }
     }
+}
 
+impl Words {
     // SubBytes and ShiftRows, §5.1.1 and §5.1.2.
-    fn shifted(self, tables: &[u32; 1024]) -> Words
-        requires { IsTTables tables.now }
+    fn shifted(self, tables: &TTables) -> Words
         ensures { state_of result ≡ shift_rows (sub_bytes (state_of self)) }
     {
         let s = self;
@@ -156,25 +154,26 @@ impl Words {
         ensures { state_of result ≡ add_round_key w.now 0 x.bytes }
     {
         let k = Words::round_key(w, 0);
-        Words::of_block(x).add(k)
+        Words::from(x).add(k)
     }
 
     // A round but the last, by its key. The key comes first and each column is looked up at once and then done with: so the columns
     // before and after the round stay in registers.
-    pub fn keyed_round(self, tables: &[u32; 1024], k: Words) -> Words
-        requires { IsTTables tables.now }
+    // `State` and `Folded` have rounds of the same names. No function is generic over the three, and nothing but the
+    // names is alike: a trait of them would be a text more.
+    pub fn keyed_round(self, tables: &TTables, k: Words) -> Words
         ensures { state_of result ≡ mix_columns (shift_rows (sub_bytes (state_of self))) ⊕ state_of k }
     {
-        k.spread(tables, self.a)
-            .spread(tables, self.b)
-            .spread(tables, self.c)
-            .spread(tables, self.d)
+        let m = &tables.words;
+        k.spread(m, self.a)
+            .spread(m, self.b)
+            .spread(m, self.c)
+            .spread(m, self.d)
     }
 
     // The same, round r under a schedule.
-    pub fn round(self, tables: &[u32; 1024], w: &[u8; 176], r: usize) -> Words
-        requires ttables { IsTTables tables.now }
-        requires r_bound { r < 11 }
+    pub fn round(self, tables: &TTables, w: &[u8; 176], r: usize) -> Words
+        requires { r < 11 }
         ensures { state_of result ≡ aes_round w.now r (state_of self) }
     {
         let k = Words::round_key(w, r);
@@ -182,16 +181,14 @@ impl Words {
     }
 
     // The last round, which has no MixColumns, by its key.
-    pub fn keyed_last(self, tables: &[u32; 1024], k: Words) -> Block
-        requires { IsTTables tables.now }
+    pub fn keyed_last(self, tables: &TTables, k: Words) -> Block
         ensures { result.bytes ≡ shift_rows (sub_bytes (state_of self)) ⊕ state_of k }
     {
-        self.shifted(tables).add(k).block()
+        Block::from(self.shifted(tables).add(k))
     }
 
     // The same under a schedule.
-    pub fn last_round(self, tables: &[u32; 1024], w: &[u8; 176]) -> Block
-        requires { IsTTables tables.now }
+    pub fn last_round(self, tables: &TTables, w: &[u8; 176]) -> Block
         ensures { result.bytes ≡ add_round_key w.now 10 (shift_rows (sub_bytes (state_of self))) }
     {
         let k = Words::round_key(w, 10);

@@ -3,22 +3,25 @@
 // takes from the tables, so that nothing more is lent.
 ghost use Rattle.std.specs.Prelude.{◌≡◌, ◌<◌};
 ghost use Rattle.model.specs.Aes.{xtime, rot_word, aes};
-ghost use Rattle.aes.specs.Tables.{word_of, IsTTables};
+ghost use Rattle.aes.specs.Tables.{word_of};
 ghost use Rattle.aes.specs.Round.{NextKey};
 
 use crate::fast::Pair;
 use crate::folded::Folded;
-use crate::packed::{Words, shifted_word};
+use crate::lookup::TTables;
+use crate::packed::Words;
+use crate::substitution::SubWord;
 use block::Block;
 
 // RotWord, §5.2: row 1 comes first.
 pub fn rotated(x: u32) -> u32
     ensures { word_of result ≡ rot_word (word_of x) }
 {
-    (x >> 8) + (x << 24)
+    x.rotate_right(8)
 }
 
 // The round constant of the next round: {02} times this one, §4.2.
+// Of a word, as the key that it goes into is one: by `times_x`, which is of a byte, it would be converted both ways.
 pub fn next_constant(rc: u32) -> u32
     requires { rc < 256 }
     ensures { result ≡ xtime rc }
@@ -28,12 +31,10 @@ pub fn next_constant(rc: u32) -> u32
 
 // The key of the next round, from that of a round: the first word takes SubWord and RotWord of the last and the round constant, each of
 // the others the one before it.
-fn next_key(tables: &[u32; 1024], k: Words, rc: u32) -> Words
-    requires { IsTTables tables.now }
+pub fn next_key<S: SubWord>(table: &S, k: Words, rc: u32) -> Words
     ensures { NextKey k rc result }
 {
-    let x = rotated(k.d);
-    let a = k.a ^ (shifted_word(tables, x, x, x, x) ^ rc);
+    let a = k.a ^ (table.sub_packed(rotated(k.d)) ^ rc);
     let b = k.b ^ a;
     let c = k.c ^ b;
     let d = k.d ^ c;
@@ -41,14 +42,16 @@ fn next_key(tables: &[u32; 1024], k: Words, rc: u32) -> Words
 }
 
 // Two blocks encrypted under a key each, side by side as `encrypt_pair` does it.
-pub fn encrypt_each_under(tables: &[u32; 1024], i: Block, x: Block, j: Block, y: Block) -> Pair
-    requires { IsTTables tables.now }
+// The constant goes along with the keys, each made of the one before, and is looked up nowhere. Each block stands beside its own key: a struct of the two would be made for this call alone. The loop is
+// not `encrypt_pair`'s with a closure for the keys, which would hold both keys and the constant and change them at each
+// turn; that keys are made a round ahead, and not just before it, was tried and is quicker (bench/NOTES.md).
+pub fn encrypt_each_under(tables: &TTables, i: Block, x: Block, j: Block, y: Block) -> Pair
     ensures { (result.x.bytes ≡ aes i.bytes x.bytes) × (result.y.bytes ≡ aes j.bytes y.bytes) }
 {
-    let first = Words::of_block(i);
-    let other = Words::of_block(j);
-    let mut s = Words::of_block(x).add(first);
-    let mut t = Folded::of_words(Words::of_block(y).add(other));
+    let first = Words::from(i);
+    let other = Words::from(j);
+    let mut s = Words::from(x).add(first);
+    let mut t = Folded::from(Words::from(y).add(other));
     let mut k = next_key(tables, first, 1); // the keys of round r
     let mut l = next_key(tables, other, 1);
     let mut rc: u32 = 2; // the round constant of the next
@@ -60,6 +63,6 @@ pub fn encrypt_each_under(tables: &[u32; 1024], i: Block, x: Block, j: Block, y:
         rc = next_constant(rc);
     }
     let p = s.keyed_last(tables, k);
-    let q = t.words().keyed_last(tables, l);
+    let q = Words::from(t).keyed_last(tables, l);
     Pair { x: p, y: q }
 }

@@ -21,17 +21,22 @@ const SBOX: [u8; 256] = [
     0x8c, 0xa1, 0x89, 0x0d, 0xbf, 0xe6, 0x42, 0x68, 0x41, 0x99, 0x2d, 0x0f, 0xb0, 0x54, 0xbb, 0x16,
 ];
 
-// The table: an operation names it once, and lends it to what it calls.
-pub fn s_box() -> [u8; 256]
-    ensures { IsSBox result }
-{
-    SBOX
+// The table: an operation makes it once, and lends it to what it calls.
+#[derive(Clone, Copy)]
+pub struct SBox {
+    pub bytes: [u8; 256],
+    ghost is_s_box: { IsSBox bytes },
 }
 
-// A byte through the S-box.
-pub fn sub(t: &[u8; 256], b: u8) -> u8
-    requires { IsSBox t.now }
-    ensures { result ≡ s_box b }
-{
-    t[b as usize]
+impl SBox {
+    pub fn new() -> SBox {
+        SBox { bytes: SBOX }
+    }
+
+    // A byte through the S-box.
+    pub fn sub(&self, b: u8) -> u8
+        ensures { result ≡ s_box b }
+    {
+        self.bytes[b as usize]
+    }
 }

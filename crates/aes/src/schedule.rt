@@ -1,9 +1,9 @@
 // Key expansion, §5.2: a schedule is 44 words, word i at byte 4i.
 ghost use Rattle.std.specs.Prelude.{◌≡◌, ◌*◌, ◌<◌};
 ghost use Rattle.model.specs.Bytes.{put};
-ghost use Rattle.model.specs.Aes.{IsSBox, word, xor_word, rot_word, sub_word, rcon, IsExpansion};
+ghost use Rattle.model.specs.Aes.{word, xor_word, rot_word, rcon, IsExpansion};
 
-use crate::sbox::sub;
+use crate::substitution::SubWord;
 use block::Block;
 
 // AES-128 (§5): the words of a key, Nk, and the rounds, Nr.
@@ -23,6 +23,9 @@ pub fn round_constant(j: usize) -> [u8; 4]
     [POWERS_OF_X[j - 1], 0, 0, 0]
 }
 
+// SubWord, RotWord, ⊕ and the words of a schedule are of four bytes here, as the standard prints them, and of one
+// number in `rotated`, `next_key` and `Words`, where they are quick.
+// Four bytes are written out: by an index each would be the same line in a closure.
 pub fn xor_word(a: [u8; 4], b: [u8; 4]) -> [u8; 4]
     ensures { result ≡ xor_word a b }
 {
@@ -35,13 +38,6 @@ pub fn rot_word(a: [u8; 4]) -> [u8; 4]
     [a[1], a[2], a[3], a[0]]
 }
 
-fn sub_word(t: &[u8; 256], a: [u8; 4]) -> [u8; 4]
-    requires { IsSBox t.now }
-    ensures { result ≡ sub_word a }
-{
-    [sub(t, a[0]), sub(t, a[1]), sub(t, a[2]), sub(t, a[3])]
-}
-
 pub fn word(w: &[u8; 176], i: usize) -> [u8; 4]
     requires { i < 44 }
     ensures { result ≡ word w.now i }
@@ -51,39 +47,32 @@ pub fn word(w: &[u8; 176], i: usize) -> [u8; 4]
 }
 
 // The schedule with a word written.
+#[tactic(auto, unfolding(model::specs::Bytes::put, model::specs::Bytes::over))]
 pub fn put_word(w: [u8; 176], i: usize, x: [u8; 4]) -> [u8; 176]
     requires { i < 44 }
     ensures { result ≡ put w (4 * i) x }
 {
     let mut v = w;
-    let at = 4 * i;
-    v[at] = x[0];
-    v[at + 1] = x[1];
-    v[at + 2] = x[2];
-    v[at + 3] = x[3];
+    v[4 * i..4 * i + 4].copy_from_slice(&x);
     v
 }
 
 // KeyExpansion: the schedule of a key, which is made once and lent to each encryption under it. The lines of §5.2's Algorithm 2 stand
 // beside those that do what they say.
-pub fn expand_key(t: &[u8; 256], key: Block) -> [u8; 176]
-    requires { IsSBox t.now }
+pub fn expand_key<S: SubWord>(table: &S, key: Block) -> [u8; 176]
     ensures { IsExpansion key.bytes result }
 {
     let k = key.bytes;
     let mut w = [0u8; 176];
-    let mut i: usize = 0; // i ← 0
-    while i <= NK - 1 { // while i ≤ Nk - 1 do
+    for i in 0..=NK - 1 { // i ← 0, while i ≤ Nk - 1 do
         w = put_word(w, i, [k[4 * i], k[4 * i + 1], k[4 * i + 2], k[4 * i + 3]]); // w[i] ← key[4*i..4*i+3]
-        i += 1; // i ← i + 1
-    } // end while
-    while i <= 4 * NR + 3 { // while i ≤ 4 * Nr + 3 do
+    } // i ← i + 1, end while
+    for i in NK..=4 * NR + 3 { // while i ≤ 4 * Nr + 3 do
         let mut temp = word(&w, i - 1); // temp ← w[i-1]
         if i % NK == 0 { // if i mod Nk = 0 then
-            temp = xor_word(sub_word(t, rot_word(temp)), round_constant(i / NK)); // temp ← SubWord(RotWord(temp)) ⊕ Rcon[i/Nk]
+            temp = xor_word(table.sub_word(rot_word(temp)), round_constant(i / NK)); // temp ← SubWord(RotWord(temp)) ⊕ Rcon[i/Nk]
         } // else if Nk > 6 ..: AES-128 has Nk = 4; end if
         w = put_word(w, i, xor_word(word(&w, i - NK), temp)); // w[i] ← w[i-Nk] ⊕ temp
-        i += 1; // i ← i + 1
-    } // end while
+    } // i ← i + 1, end while
     w // return w
 }

@@ -1,10 +1,12 @@
 // The state, and the steps of a round, §5.1: the state goes through them in turn, and each hands it back.
 ghost use Rattle.std.specs.Prelude.{◌≡◌, [], ◌∷◌, ◌<◌};
-ghost use Rattle.model.specs.Aes.{IsSBox, xtime, mix_byte, mix_word, sub_bytes, shift_rows, mix_columns, add_round_key, aes_round};
+ghost use Rattle.model.specs.Aes.{xtime, mix_byte, mix_word, sub_bytes, shift_rows, mix_columns, add_round_key, aes_round};
 
-use crate::sbox::sub;
+use crate::sbox::SBox;
+use std::array;
 
 // A block on its way through the rounds, §3.4: byte r + 4c is row r of column c.
+// A type beside `Block`, though both are 16 bytes: `Block` is another crate's, and the steps are methods of this one.
 #[derive(Clone, Copy)]
 pub struct State {
     pub bytes: [u8; 16],
@@ -38,16 +40,12 @@ fn mix_word(a: u8, b: u8, c: u8, d: u8) -> [u8; 4]
 
 impl State {
     // SubBytes, §5.1.1: each byte through the S-box.
-    pub fn sub_bytes(self, t: &[u8; 256]) -> State
-        requires { IsSBox t.now }
+    pub fn sub_bytes(self, table: &SBox) -> State
         ensures { result.bytes ≡ sub_bytes self.bytes }
     {
-        let s = self.bytes;
-        let mut x = [0u8; 16];
-        for i in 0..16 {
-            x[i] = sub(t, s[i]);
+        State {
+            bytes: self.bytes.map(|b| table.sub(b)),
         }
-        State { bytes: x }
     }
 
     // ShiftRows, §5.1.2: row r is rotated left by r columns.
@@ -55,16 +53,16 @@ impl State {
         ensures { result.bytes ≡ shift_rows self.bytes }
     {
         let s = self.bytes;
-        let mut x = [0u8; 16];
-        for i in 0..16 {
+        let bytes = array::from_fn(|i| {
             let r = i % 4;
             let c = i / 4;
-            x[i] = s[r + 4 * ((c + r) % 4)];
-        }
-        State { bytes: x }
+            s[r + 4 * ((c + r) % 4)]
+        });
+        State { bytes }
     }
 
     // MixColumns, §5.1.3: each column by itself.
+    // Written out for the four columns: an array made by an index would divide it by 4 to find the column.
     pub fn mix_columns(self) -> State
         ensures { result.bytes ≡ mix_columns self.bytes }
     {
@@ -81,7 +79,8 @@ impl State {
         }
     }
 
-    // AddRoundKey, §5.1.4: the key of round r is exclusive-ored in.
+    // AddRoundKey, §5.1.4: the key of round r is exclusive-ored in. By a loop: tried, with `array::from_fn` the proof did
+    // not close.
     pub fn add_round_key(self, w: &[u8; 176], r: usize) -> State
         requires { r < 11 }
         ensures { result.bytes ≡ add_round_key w.now r self.bytes }
@@ -95,22 +94,20 @@ impl State {
     }
 
     // A round but the last.
-    pub fn round(self, t: &[u8; 256], w: &[u8; 176], r: usize) -> State
-        requires sbox { IsSBox t.now }
-        requires r_bound { r < 11 }
+    pub fn round(self, table: &SBox, w: &[u8; 176], r: usize) -> State
+        requires { r < 11 }
         ensures { result.bytes ≡ aes_round w.now r self.bytes }
     {
-        self.sub_bytes(t)
+        self.sub_bytes(table)
             .shift_rows()
             .mix_columns()
             .add_round_key(w, r)
     }
 
     // The last round, which has no MixColumns.
-    pub fn last_round(self, t: &[u8; 256], w: &[u8; 176]) -> State
-        requires { IsSBox t.now }
+    pub fn last_round(self, table: &SBox, w: &[u8; 176]) -> State
         ensures { result.bytes ≡ add_round_key w.now 10 (shift_rows (sub_bytes self.bytes)) }
     {
-        self.sub_bytes(t).shift_rows().add_round_key(w, 10)
+        self.sub_bytes(table).shift_rows().add_round_key(w, 10)
     }
 }

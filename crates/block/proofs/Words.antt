@@ -8,79 +8,56 @@ use lib.Arith.{digits_div}
 use lib.Bits.{bit_or, bit_xor, or_shifted, xor_shr, xor_mod, xor_zero_r}
 use lib.ListN.{get_or, length}
 use lib.Pow.{shr-shr}
+use Rattle.std.specs.Int.{w64, from_be_bytes, to_le_bytes, swap_bytes}
 use Rattle.model.specs.Bytes.{tabulate, number, bytes_of}
-use Rattle.model.specs.Aes.{Block, ◌⊕◌, block, times, double, quadruple}
+use Rattle.model.specs.Aes.{Block, ◌⊕◌, block, times, double}
 use Rattle.model.specs.Hashes.{sigma}
 use Rattle.model.proofs.Lists.{elements}
-use Rattle.block.specs.Halves.{low_first}
 use Rattle.model.proofs.Number.{Bytes, none, more, bytes_number, number_bytes, number_append, of_number, both, leading_zeros}
 
--- ---- the order of bytes
+-- ---- a word and its bytes
 
 eight : {a b c d e f g h a' b' c' d' e' f' g' h' : ℕ} → a ≡ a' → b ≡ b' → c ≡ c' → d ≡ d' → e ≡ e' → f ≡ f' → g ≡ g' → h ≡ h' →
     ◌≡◌ {A = List ℕ} (a ∷ b ∷ c ∷ d ∷ e ∷ f ∷ g ∷ h ∷ []) (a' ∷ b' ∷ c' ∷ d' ∷ e' ∷ f' ∷ g' ∷ h' ∷ [])
 eight p q r s t u v w = cc
 
--- bytes the other way round
-turned : List ℕ → List ℕ
-turned l = tabulate 8 (λ i. get_or l (7 - i) 0)
-
 -- the bytes that a word is made of
 made : {l : List ℕ} (x : ℕ) → Bytes l → x ≡ number l → bytes_of (length l) x ≡ l
 made {l} x b e = ap (bytes_of (length l)) (e ∙ omega arith) ∙ bytes_number 0 b
 
-module _ (a b c d e f g h : ℕ) (ha : a < 256) (hb : b < 256) (hc : c < 256) (hd : d < 256) (he : e < 256) (hf : f < 256) (hg : g < 256) (hh : h < 256) where
-  high_first : bytes_of 8 (a * 2 ^ 56 % 2 ^ 64 + b * 2 ^ 48 % 2 ^ 64 + c * 2 ^ 40 % 2 ^ 64 + d * 2 ^ 32 % 2 ^ 64 + e * 2 ^ 24 % 2 ^ 64 + f * 2 ^ 16 % 2 ^ 64 + g * 2 ^ 8 % 2 ^ 64 + h) ≡ a ∷ b ∷ c ∷ d ∷ e ∷ f ∷ g ∷ h ∷ []
-  unfolding number
-  high_first =
-      let p : a * 2 ^ 56 % 2 ^ 64 ≡ a * 256 ^ 7 = omega arith in
-      let q : b * 2 ^ 48 % 2 ^ 64 ≡ b * 256 ^ 6 = omega arith in
-      let r : c * 2 ^ 40 % 2 ^ 64 ≡ c * 256 ^ 5 = omega arith in
-      let s : d * 2 ^ 32 % 2 ^ 64 ≡ d * 256 ^ 4 = omega arith in
-      let t : e * 2 ^ 24 % 2 ^ 64 ≡ e * 256 ^ 3 = omega arith in
-      let u : f * 2 ^ 16 % 2 ^ 64 ≡ f * 256 ^ 2 = omega arith in
-      let v : g * 2 ^ 8 % 2 ^ 64 ≡ g * 256 ^ 1 = omega arith in
-      made _ (more ha (more hb (more hc (more hd (more he (more hf (more hg (more hh none)))))))) (rw (p, q, r, s, t, u, v) (omega arith))
+-- read from its bytes, the highest first
+gathered : (a b c d e f g h x : ℕ) → a < 256 → b < 256 → c < 256 → d < 256 → e < 256 → f < 256 → g < 256 → h < 256 →
+    x ≡ from_be_bytes w64 (a ∷ b ∷ c ∷ d ∷ e ∷ f ∷ g ∷ h ∷ []) → bytes_of 8 x ≡ a ∷ b ∷ c ∷ d ∷ e ∷ f ∷ g ∷ h ∷ []
+unfolding number
+gathered a b c d e f g h x ha hb hc hd he hf hg hh is_x =
+    made x (more ha (more hb (more hc (more hd (more he (more hf (more hg (more hh none)))))))) (omega (arith, is_x))
 
-reversed : (a b c d e f g h : ℕ) → a + b + c + d + e + f + g + h ≡ h + g + f + e + d + c + b + a
-reversed a b c d e f g h = omega arith
+-- swapped, and written the lowest first
+swapped : (x y : ℕ) → y ≡ swap_bytes w64 x → bytes_of 8 y ≡ to_le_bytes w64 x
+swapped x y e = gathered _ _ _ _ _ _ _ _ y (omega arith) (omega arith) (omega arith) (omega arith) (omega arith) (omega arith) (omega arith) (omega arith) e
 
--- the word x with its bytes in the opposite order
-pub swapped : (x : ℕ) → bytes_of 8 (x % 256 * 2 ^ 56 % 2 ^ 64 + x / 2 ^ 8 % 256 * 2 ^ 48 % 2 ^ 64 + x / 2 ^ 16 % 256 * 2 ^ 40 % 2 ^ 64 + x / 2 ^ 24 % 256 * 2 ^ 32 % 2 ^ 64 + x / 2 ^ 32 % 256 * 2 ^ 24 % 2 ^ 64 + x / 2 ^ 40 % 256 * 2 ^ 16 % 2 ^ 64 + x / 2 ^ 48 % 256 * 2 ^ 8 % 2 ^ 64 + x / 2 ^ 56 % 256) ≡ low_first x
-swapped x =
-    high_first (x % 256) (x / 2 ^ 8 % 256) (x / 2 ^ 16 % 256) (x / 2 ^ 24 % 256) (x / 2 ^ 32 % 256) (x / 2 ^ 40 % 256) (x / 2 ^ 48 % 256) (x / 2 ^ 56 % 256)
-    (omega arith) (omega arith) (omega arith) (omega arith) (omega arith) (omega arith) (omega arith) (omega arith)
-    ∙ eight (omega arith) refl refl refl refl refl refl refl
+-- bytes the other way round
+turned : List ℕ → List ℕ
+turned l = tabulate 8 (λ i. get_or l (7 - i) 0)
 
--- a word gathered from its bytes the lowest first, and swapped
-pub gathered : (a b c d e f g h y : ℕ) → a < 256 → b < 256 → c < 256 → d < 256 → e < 256 → f < 256 → g < 256 → h < 256 →
-    bytes_of 8 y ≡ low_first (a + b * 2 ^ 8 % 2 ^ 64 + c * 2 ^ 16 % 2 ^ 64 + d * 2 ^ 24 % 2 ^ 64 + e * 2 ^ 32 % 2 ^ 64 + f * 2 ^ 40 % 2 ^ 64 + g * 2 ^ 48 % 2 ^ 64 + h * 2 ^ 56 % 2 ^ 64) → bytes_of 8 y ≡ a ∷ b ∷ c ∷ d ∷ e ∷ f ∷ g ∷ h ∷ []
+pub written : (x y : ℕ) → y ≡ swap_bytes w64 x → to_le_bytes w64 y ≡ bytes_of 8 x
 unfolding bytes_of turned
-gathered a b c d e f g h y ha hb hc hd he hf hg hh is_y =
-    is_y ∙ ap turned (ap (bytes_of 8) (reversed a (b * 2 ^ 8 % 2 ^ 64) (c * 2 ^ 16 % 2 ^ 64) (d * 2 ^ 24 % 2 ^ 64) (e * 2 ^ 32 % 2 ^ 64) (f * 2 ^ 40 % 2 ^ 64) (g * 2 ^ 48 % 2 ^ 64) (h * 2 ^ 56 % 2 ^ 64))
-    ∙ high_first h g f e d c b a hh hg hf he hd hc hb ha)
-
--- and a word swapped, and taken apart from the lowest
-pub parted : (x y : ℕ) → bytes_of 8 y ≡ low_first x →
-    ◌≡◌ {A = List ℕ} (y % 256 ∷ y / 2 ^ 8 % 256 ∷ y / 2 ^ 16 % 256 ∷ y / 2 ^ 24 % 256 ∷ y / 2 ^ 32 % 256 ∷ y / 2 ^ 40 % 256 ∷ y / 2 ^ 48 % 256 ∷ y / 2 ^ 56 % 256 ∷ []) (bytes_of 8 x)
-unfolding bytes_of turned
-parted x y is_y = eight (omega arith) refl refl refl refl refl refl refl ∙ ap turned is_y
+written x y e = eight (omega arith) refl refl refl refl refl refl refl ∙ ap turned (swapped x y e) ∙ eight refl refl refl refl refl refl refl (omega arith)
 
 -- ---- a block as two words: the bytes of the high one, then those of the low one
 
 abbrev pub halves : ℕ → ℕ → Block
 halves x y = bytes_of 8 x ++ bytes_of 8 y
 
-pub joined : (s : Block) (x y : ℕ) → length s ≡ 16 →
-    bytes_of 8 x ≡ get_or s 0 0 ∷ get_or s 1 0 ∷ get_or s 2 0 ∷ get_or s 3 0 ∷ get_or s 4 0 ∷ get_or s 5 0 ∷ get_or s 6 0 ∷ get_or s 7 0 ∷ [] →
-    bytes_of 8 y ≡ get_or s 8 0 ∷ get_or s 9 0 ∷ get_or s 10 0 ∷ get_or s 11 0 ∷ get_or s 12 0 ∷ get_or s 13 0 ∷ get_or s 14 0 ∷ get_or s 15 0 ∷ [] → halves x y ≡ s
-joined s x y l p q = ap₂ (λ (a b : List ℕ). a ++ b) p q ∙ elements 16 s l
-
-pub laid : (a b : List ℕ) (x y : ℕ) → a ≡ bytes_of 8 x → b ≡ bytes_of 8 y →
-    get_or a 0 0 ∷ get_or a 1 0 ∷ get_or a 2 0 ∷ get_or a 3 0 ∷ get_or a 4 0 ∷ get_or a 5 0 ∷ get_or a 6 0 ∷ get_or a 7 0 ∷ get_or b 0 0 ∷ get_or b 1 0 ∷ get_or b 2 0 ∷ get_or b 3 0 ∷ get_or b 4 0 ∷ get_or b 5 0 ∷ get_or b 6 0 ∷ get_or b 7 0 ∷ []
-    ≡ halves x y
-unfolding bytes_of
-laid a b x y p q = rw (p, q)
+pub joined : (s : Block) (x y : ℕ) → length s ≡ 16 → ((i : ℕ) → i < 16 → get_or s i 0 < 256) →
+    x ≡ from_be_bytes w64 (get_or s 0 0 ∷ get_or s 1 0 ∷ get_or s 2 0 ∷ get_or s 3 0 ∷ get_or s 4 0 ∷ get_or s 5 0 ∷ get_or s 6 0 ∷ get_or s 7 0 ∷ []) →
+    y ≡ from_be_bytes w64 (get_or s 8 0 ∷ get_or s 9 0 ∷ get_or s 10 0 ∷ get_or s 11 0 ∷ get_or s 12 0 ∷ get_or s 13 0 ∷ get_or s 14 0 ∷ get_or s 15 0 ∷ []) →
+    halves x y ≡ s
+joined s x y l fits p q =
+    ap₂ (λ (a b : List ℕ). a ++ b)
+    (gathered _ _ _ _ _ _ _ _ x (fits 0 (omega arith)) (fits 1 (omega arith)) (fits 2 (omega arith)) (fits 3 (omega arith)) (fits 4 (omega arith)) (fits 5 (omega arith)) (fits 6 (omega arith)) (fits 7 (omega arith)) p)
+    (gathered _ _ _ _ _ _ _ _ y (fits 8 (omega arith)) (fits 9 (omega arith)) (fits 10 (omega arith)) (fits 11 (omega arith)) (fits 12 (omega arith)) (fits 13 (omega arith)) (fits 14 (omega arith)) (fits 15 (omega arith)) q)
+    ∙ elements 16 s l
 
 -- a number of 64 bits
 pub small : (k : ℕ) → k < 2 ^ 64 → halves 0 k ≡ block k
@@ -163,8 +140,3 @@ doubled_halves h l x y lh ll e =
     let q : ℕ = h / 2 ^ 63 in
     ap (λ (z : ℕ). halves z (bit_xor y (q * 0x87))) (sym (xor_zero_r x)) ∙ halves_xor x y 0 (q * 0x87)
     ∙ ap₂ (λ (a b : Block). a ⊕ b) e (reduction q (omega arith) ∙ ap (λ (z : ℕ). times z (block 0x87)) (sym (out h l lh ll)))
-
--- "4A is twice doubled": x and y are the number doubled once and twice, and r is the block that y is
-pub twice : (a h x y r : Block) → r ≡ y → y ≡ double x → x ≡ double h → h ≡ a → r ≡ quadruple a
-unfolding quadruple
-twice a h x y r e f g k = e ∙ f ∙ ap double (g ∙ ap double k)

@@ -1,18 +1,14 @@
 use Prim.Native.Nat.{ℕ, ◌≤◌}
 use native.Mathlib.Omega.{arith}
 use mathlib.Core.Path.{◌≡◌}
-use lib.Bits.{bit_xor, xor_lt}
+use lib.Bits.{bit_xor}
 use Rattle.model.specs.Tokens.{decoded}
 use Rattle.model.proofs.Xor.{xor_digit}
 use Rattle.block.proofs.decoded.Goals as goal
 
 -- of two bits
-module _ (c x : ℕ) (hc : c ≤ 1) (hx : x ≤ 1) where
-  is_decoded : bit_xor c x ≡ decoded c x
-  is_decoded = xor_digit c x (omega arith) (omega arith)
-
-  decoded_low : bit_xor c x ≤ 1
-  decoded_low = omega (arith, xor_lt 1 c x (omega arith) (omega arith))
+is_decoded : (c x : ℕ) → c ≤ 1 → x ≤ 1 → bit_xor c x ≡ decoded c x
+is_decoded c x hc hx = xor_digit c x (omega arith) (omega arith)
 
 pub returns : goal.returns
-returns c = (search is_decoded, search decoded_low)
+returns c = search is_decoded

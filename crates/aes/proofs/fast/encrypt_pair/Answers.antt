@@ -11,5 +11,5 @@ loop-r-preserved c = let l = c.loop-r.invariant in (rounds_turn l.0 c.round-s.en
 pub returns : goal.returns
 returns c = (
   rounds_end c.loop-r.invariant.0 (omega arith) c.last_round-p.ensures _ c.start-s.ensures,
-  rounds_end c.loop-r.invariant.1 (omega arith) (rw (← c.words.ensures) c.last_round-q.ensures) _ c.start-t.ensures,
+  rounds_end c.loop-r.invariant.1 (omega arith) (rw (← c.from.ensures) c.last_round-q.ensures) _ c.start-t.ensures,
 )

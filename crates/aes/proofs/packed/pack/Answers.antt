@@ -3,4 +3,4 @@ use Rattle.aes.proofs.Packing.{packed}
 use Rattle.aes.proofs.packed.pack.Goals as goal
 
 pub returns : goal.returns
-returns c = packed _ _ _ _ (search rules) (search rules) (search rules) (search rules)
+returns c = packed _ _ (search rules) (search rules) c.from_le_bytes.ensures

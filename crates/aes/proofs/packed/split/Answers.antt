@@ -1,6 +1,6 @@
-use borrow.Author.Rules.{rules}
+use mathlib.Core.Path.{◌∙◌}
 use Rattle.aes.proofs.Packing.{bytes}
 use Rattle.aes.proofs.packed.split.Goals as goal
 
 pub returns : goal.returns
-returns c = bytes _ (search rules)
+returns c = c.to_le_bytes.ensures ∙ bytes _

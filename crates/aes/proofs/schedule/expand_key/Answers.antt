@@ -5,16 +5,16 @@ use Rattle.aes.proofs.schedule.expand_key.Goals as goal
 use Rattle.aes.proofs.schedule.expand_key.Goals.{then-i-eq0, else-i-eq0}
 
 pub loop-i-init : goal.loop-i-init
-loop-i-init c = key_start (search rules)
+loop-i-init g c = key_start (search rules)
 
 pub loop-i-preserved : goal.loop-i-preserved
-loop-i-preserved c = key_turn (search rules) c.loop-i.invariant c.put_word-w.ensures (word_read c.args.key.bytes c.loop-i.i) (search rules) (search rules)
+loop-i-preserved g c = key_turn (search rules) c.loop-i.invariant c.put_word-w.ensures (word_read c.args.key.bytes c.loop-i.i) (search rules) (search rules)
 
 pub loop-i-2-init : goal.loop-i-2-init
-loop-i-2-init c = expand_start c.loop-i.invariant (search rules)
+loop-i-2-init g c = expand_start c.loop-i.invariant
 
 pub loop-i-2-preserved : goal.loop-i-2-preserved
-loop-i-2-preserved c = let w = c.loop-i-2.w in let i = c.loop-i-2.i in expand_turn c.loop-i-2.invariant c.put_word-w-in-loop-i-2.ensures
+loop-i-2-preserved g c = let w = c.loop-i-2.w in let i = c.loop-i-2.i in expand_turn c.loop-i-2.invariant c.put_word-w-in-loop-i-2.ensures
     (made w i
     (elim c.if-i-eq0.branch [
       | then-i-eq0 a ↦ temp_made w i c.word-temp.ensures a.if-i-eq0.true a.rot_word.ensures a.sub_word.ensures a.round_constant.ensures (a.temp-is ∙ a.xor_word-temp.ensures)
@@ -24,4 +24,4 @@ loop-i-2-preserved c = let w = c.loop-i-2.w in let i = c.loop-i-2.i in expand_tu
     (search rules) (search rules)
 
 pub returns : goal.returns
-returns c = expand_end (search rules) c.loop-i.invariant (search rules) c.loop-i-2.invariant (search rules)
+returns g c = expand_end (search rules) c.loop-i.invariant (search rules) c.loop-i-2.invariant (search rules)

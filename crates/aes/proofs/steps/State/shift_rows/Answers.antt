@@ -1,15 +1,11 @@
-use mathlib.Core.Path.{refl}
-use native.Mathlib.Omega.{arith}
+use Prim.Native.Nat.{◌+◌, ◌*◌, ◌/◌, ◌%◌}
+use lib.ListN.{get_or}
+use borrow.Author.Rules.{rules}
 use Rattle.model.specs.Aes.{shift_rows}
-use Rattle.block.proofs.Fill.{fill_start, fill_turn, fill_end}
+use Rattle.aes.proofs.Joined.{tabled}
 use Rattle.aes.proofs.steps.State.shift_rows.Goals as goal
-
-pub loop-i-init : goal.loop-i-init
-loop-i-init c = fill_start (omega arith) refl
-
-pub loop-i-preserved : goal.loop-i-preserved
-loop-i-preserved c = fill_turn c.loop-i.invariant refl (omega arith)
 
 pub returns : goal.returns
 unfolding shift_rows
-returns c = fill_end c.loop-i.invariant (omega arith)
+returns c = let made = c.from_fn-bytes.ensures.items in
+    tabled 16 (λ i. get_or c.args.self.bytes (i % 4 + 4 * ((i / 4 + i % 4) % 4)) 0) _ made.long (λ i h. let called = made.at i 0 h in search (rules, called))

@@ -1,4 +1,0 @@
-use Rattle.block.proofs.Block.xor.Goals as goal
-
-pub returns : goal.returns
-returns c = cc
