@@ -8,6 +8,8 @@ use native.Mathlib.Nat.{mod-lt, zero-lt-suc}
 use lib.Dec.{eqb}
 use lib.Bits.{bit_xor, bit_and, xor_shr, xor_mod, xor_zero_r, and_shr, and_mod, and_mask, and_zero_r}
 use lib.ListN.{get_or, length}
+use Rattle.std.specs.Int.{w64, to_le_bytes, from_le_bytes}
+use Rattle.std.proofs.lemmas.Nat.{le_bytes_8}
 use Rattle.model.specs.Bytes.{tabulate}
 use Rattle.model.specs.Aes.{Block, bit}
 use Rattle.model.proofs.Lists.{entry, elements, from_cong}
@@ -22,20 +24,31 @@ use Rattle.planes.proofs.Swaps.{xor_twice}
 
 -- ---- the bytes of a word
 
-pub joins : (a b c d e f g h x : ℕ) → a < 256 → b < 256 → c < 256 → d < 256 → e < 256 → f < 256 → g < 256 → h < 256 →
-    x ≡ a + b * 2 ^ 8 + c * 2 ^ 16 + d * 2 ^ 24 + e * 2 ^ 32 + f * 2 ^ 40 + g * 2 ^ 48 + h * 2 ^ 56 → bytes_of8 x ≡ a ∷ b ∷ c ∷ d ∷ e ∷ f ∷ g ∷ h ∷ []
+-- as std has them
+pub std_bytes : (x : ℕ) → to_le_bytes w64 x ≡ bytes_of8 x
 unfolding bytes_of8
-joins a b c d e f g h x ha hb hc hd he hf hg hh p =
-    eight (omega arith) (omega arith) (omega arith) (omega arith) (omega arith) (omega arith) (omega arith) (omega arith)
+std_bytes x = eight (omega arith) refl refl refl refl refl refl refl
 
-pub splits : (x : ℕ) →
-    ◌≡◌ {A = List ℕ} (x % 256 ∷ x / 2 ^ 8 % 256 ∷ x / 2 ^ 16 % 256 ∷ x / 2 ^ 24 % 256 ∷ x / 2 ^ 32 % 256 ∷ x / 2 ^ 40 % 256 ∷ x / 2 ^ 48 % 256 ∷ x / 2 ^ 56 % 256 ∷ []) (bytes_of8 x)
-unfolding bytes_of8
-splits x = eight (omega arith) refl refl refl refl refl refl refl
+few_small : (f : ℕ → ℕ) → ((i : ℕ) → f i < 256) → (i : ℕ) → get_or (tabulate 8 f) i 0 < 256
+few_small f h zero = h 0
+few_small f h (suc zero) = h 1
+few_small f h (suc (suc zero)) = h 2
+few_small f h (suc (suc (suc zero))) = h 3
+few_small f h (suc (suc (suc (suc zero)))) = h 4
+few_small f h (suc (suc (suc (suc (suc zero))))) = h 5
+few_small f h (suc (suc (suc (suc (suc (suc zero)))))) = h 6
+few_small f h (suc (suc (suc (suc (suc (suc (suc zero))))))) = h 7
+few_small f h (suc (suc (suc (suc (suc (suc (suc (suc i)))))))) = omega arith
 
--- the bytes of a block, gathered half by half
-pub gathered : (s : Block) (u v : ℕ) → length s ≡ 16 → bytes_of8 u ≡ tabulate 8 (λ i. get_or s i 0) → bytes_of8 v ≡ tabulate 8 (λ i. get_or s (8 + i) 0) → bytes_of8 u ++ bytes_of8 v ≡ s
-gathered s u v l e f = ap₂ (λ (x y : List ℕ). x ++ y) e f ∙ elements 16 s l
+-- the word of eight bytes
+word_bytes : (f : ℕ → ℕ) (x : ℕ) → ((i : ℕ) → f i < 256) → x ≡ from_le_bytes w64 (tabulate 8 f) → bytes_of8 x ≡ tabulate 8 f
+word_bytes f x h e = sym (std_bytes x) ∙ le_bytes_8 (tabulate 8 f) x refl (few_small f h) e
+
+-- a block, read half by half
+pub gathered : (s : Block) (u v : ℕ) → length s ≡ 16 → ((i : ℕ) → get_or s i 0 < 256) → u ≡ from_le_bytes w64 (tabulate 8 (λ i. get_or s i 0)) →
+    v ≡ from_le_bytes w64 (tabulate 8 (λ i. get_or s (8 + i) 0)) → bytes_of8 u ++ bytes_of8 v ≡ s
+gathered s u v l h e f =
+    ap₂ (λ (x y : List ℕ). x ++ y) (word_bytes (λ i. get_or s i 0) u h e) (word_bytes (λ i. get_or s (8 + i) 0) v (λ i. h (8 + i)) f) ∙ elements 16 s l
 
 low_bits : (y : ℕ) → bits_of (y % 256) ≡ bits_of y
 unfolding bit

@@ -8,7 +8,6 @@ mod Swaps
 mod Halves
 mod Blocks
 mod Rounds
-mod Expansions
 mod TurnedKeys
 mod Keys
 mod SubWords

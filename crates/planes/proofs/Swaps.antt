@@ -16,7 +16,8 @@ use Rattle.planes.specs.declared.planes.Planes.{Planes}
 use Rattle.planes.specs.declared.exchange.Two.{Two}
 use Rattle.planes.specs.declared.exchange.Pairs.{Pairs}
 use Rattle.planes.specs.Lanes.{planes_of}
-use Rattle.planes.specs.Exchange.{digit, Alternates, Swapped, SwappedPairs, SwappedTurned, From, from_word, from_bit, Exchanged, ExchangedTurned, Interleaved, Parted, in_word, in_byte, out_lane, Spread, twice, Gathered}
+use Rattle.planes.specs.Alternation.{digit, Alternates}
+use Rattle.planes.specs.Exchange.{Swapped, SwappedPairs, SwappedTurned, From, from_word, from_bit, Exchanged, ExchangedTurned, Interleaved, Parted, in_word, in_byte, out_lane, Spread, twice, Gathered}
 use Rattle.planes.proofs.Lanes.{at_each, at_both, Agree, bit_xor_law, bit_and_law, bit_or_law, bit_lt, and_one}
 use Rattle.planes.proofs.Shifts.{Cut, before, after, cut, bit_right, bit_left_after, bit_left_before, bit_within}
 
@@ -183,6 +184,8 @@ by_16 = record { some = omega arith; within = omega arith; is_mask = refl }
 pub by_32 : Alternates 32 0x00000000FFFFFFFF
 unfolding bit
 by_32 = record { some = omega arith; within = omega arith; is_mask = refl }
+
+pub ruleset masks = (by_1, by_2, by_4, by_8, by_16, by_32)
 
 pub spreads : (q i a j b k c d e f r : Planes) → Interleaved q i → Exchanged 2 i a → Interleaved a j → Exchanged 1 j b → Interleaved b k → Exchanged 8 k c → Exchanged 16 c d →
     Exchanged 32 d e → Exchanged 4 e f → Parted f r → Spread q r

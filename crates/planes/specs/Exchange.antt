@@ -1,21 +1,11 @@
 -- Eight words to planes and back, by exchanges of bits: of the numbers of a word and of a bit in it, two digits change places.
 use Rattle.std.specs.Prelude.{ℕ, ◌+◌, ◌*◌, ◌-◌, ◌/◌, ◌%◌, ◌<◌, ◌≡◌, cond, [], ◌∷◌, eqb, get_or}
-use Rattle.model.specs.Bytes.{tabulate}
 use Rattle.model.specs.Aes.{bit}
 use Rattle.planes.specs.declared.planes.Planes.{Planes}
 use Rattle.planes.specs.declared.exchange.Two.{Two}
 use Rattle.planes.specs.declared.exchange.Pairs.{Pairs}
 use Rattle.planes.specs.Lanes.{planes_of}
-
--- the digit s of a number, s a power of 2
-abbrev pub digit : ℕ → ℕ → ℕ
-digit s l = l / s % 2
-
--- the mask has s bits 1 and s bits 0 in turn
-pub record Alternates (s mask : ℕ) : Type 0 where
-  pub some : 0 < s
-  pub within : s < 64
-  pub is_mask : tabulate 64 (bit mask) ≡ tabulate 64 (λ l. 1 - digit s l)
+use Rattle.planes.specs.Alternation.{digit}
 
 -- two words, of which bit l of the one has changed places with bit l - s of the other, where l has the digit s
 pub record Swapped (s a b : ℕ) (r : Two) : Type 0 where
@@ -31,6 +21,13 @@ pub record SwappedPairs (s : ℕ) (x r : Pairs) : Type 0 where
 pub record SwappedTurned (a b : ℕ) (r : Two) : Type 0 where
   pub low : (l : ℕ) → l < 64 → bit r.u l ≡ bit (get_or (a ∷ b ∷ []) (digit 8 l) 0) l
   pub high : (l : ℕ) → l < 64 → bit r.v l ≡ bit (get_or (a ∷ b ∷ []) (digit 8 l) 0) (l + 8 - digit 8 l * 16)
+
+-- each word of q with an even number and the next have become those of r, as P says
+pub record ByPairs (P : ℕ → ℕ → Two → Type 0) (q r : Planes) : Type 0 where
+  pub first : P q.p0 q.p1 (record { u = r.p0; v = r.p1 })
+  pub second : P q.p2 q.p3 (record { u = r.p2; v = r.p3 })
+  pub third : P q.p4 q.p5 (record { u = r.p4; v = r.p5 })
+  pub fourth : P q.p6 q.p7 (record { u = r.p6; v = r.p7 })
 
 -- bit l of word w of r is bit g w l of word f w l of q
 unfoldable pub From : (ℕ → ℕ → ℕ) → (ℕ → ℕ → ℕ) → Planes → Planes → Type 0

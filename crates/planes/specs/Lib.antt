@@ -3,6 +3,7 @@ pub mod Circuit
 pub mod Lanes
 pub mod Rotations
 pub mod Mixing
+pub mod Alternation
 pub mod Exchange
 pub mod Packing
 pub mod Sliced

@@ -1,5 +1,6 @@
 -- Schedules in planes, §5.2, one for each of four blocks.
 use Rattle.std.specs.Prelude.{ℕ, zero, suc, ◌+◌, ◌*◌, ◌%◌, ◌<◌, ◌≤◌, ◌≡◌, List, length, get_or}
+use Rattle.std.specs.Coded.{Coded-set, coded_list, coded_ℕ}
 use Rattle.model.specs.Bytes.{tabulate}
 use Rattle.model.specs.Aes.{Block, ◌⊕◌, shift_rows, round_key}
 use Rattle.planes.specs.declared.planes.Planes.{Planes}
@@ -31,6 +32,14 @@ pub record SlicedFrom (r : ℕ) (ws : ℕ → List ℕ) (k : List ℕ) : Type 0 
 -- and all of them
 unfoldable pub IsSliced : (ℕ → List ℕ) → List ℕ → Type 0
 IsSliced ws k = SlicedFrom 1 ws k
+
+-- a fact of a schedule, and so one that a struct may keep of it
+pub IsSliced-prop : (ws : ℕ → List ℕ) (k : List ℕ) → IsProp (IsSliced ws k)
+unfolding IsSliced
+IsSliced-prop ws k p q = λ i. record {
+  first = λ b hb. Coded-set (coded_list coded_ℕ) _ _ (p.first b hb) (q.first b hb) i;
+  others = λ n h0 hn b hb. Coded-set (coded_list coded_ℕ) _ _ (p.others n h0 hn b hb) (q.others n h0 hn b hb) i;
+}
 
 -- the schedule u for blocks 0 and 1, and v for the others
 abbrev pub by_pair : List ℕ → List ℕ → ℕ → List ℕ

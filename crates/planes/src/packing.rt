@@ -1,12 +1,13 @@
 // Blocks to planes and back. Word 2b + h has half h of block b, bytes 8h to 8h + 7, the first lowest; the words are then spread to planes.
-ghost use Rattle.std.specs.Prelude.{◌≡◌, [], ◌∷◌, ◌++◌};
+ghost use Rattle.std.specs.Prelude.{◌≡◌, ◌++◌};
 ghost use Rattle.planes.specs.Packing.{bytes_of8, Packed, Unpacked};
 
 use crate::exchange::{gather, spread};
 use crate::planes::Planes;
 use block::Block;
 
-// Four blocks.
+// Four blocks. By name and not by number: planes, words and contracts name each, and an array would be taken apart at
+// once by `pack`, and by what schemes do with the four answers.
 #[derive(Clone, Copy)]
 pub struct Four {
     pub a: Block,
@@ -16,59 +17,32 @@ pub struct Four {
 }
 
 // The halves of a block.
+// Not block's own, which are a number's: here the lowest byte comes first, and σ and doubling have no place.
 #[derive(Clone, Copy)]
 pub struct Halves {
     pub first: u64,
     pub second: u64,
 }
 
-// Eight bytes as a word, the lowest first.
-fn word(a: u8, b: u8, c: u8, d: u8, e: u8, f: u8, g: u8, h: u8) -> u64
-    ensures { bytes_of8 result ≡ a ∷ b ∷ c ∷ d ∷ e ∷ f ∷ g ∷ h ∷ [] }
-{
-    (a as u64)
-        + ((b as u64) << 8)
-        + ((c as u64) << 16)
-        + ((d as u64) << 24)
-        + ((e as u64) << 32)
-        + ((f as u64) << 40)
-        + ((g as u64) << 48)
-        + ((h as u64) << 56)
-}
+impl From<Block> for Halves {
+    ghost from_gives = { λ x h. bytes_of8 h.first ++ bytes_of8 h.second ≡ x.bytes };
 
-// The bytes of a word, the lowest first.
-fn bytes(x: u64) -> [u8; 8]
-    ensures { result ≡ bytes_of8 x }
-{
-    [
-        (x % 256) as u8,
-        ((x >> 8) % 256) as u8,
-        ((x >> 16) % 256) as u8,
-        ((x >> 24) % 256) as u8,
-        ((x >> 32) % 256) as u8,
-        ((x >> 40) % 256) as u8,
-        ((x >> 48) % 256) as u8,
-        ((x >> 56) % 256) as u8,
-    ]
-}
-
-// The halves of a block.
-fn halved(x: Block) -> Halves
-    ensures { bytes_of8 result.first ++ bytes_of8 result.second ≡ x.bytes }
-{
-    let s = x.bytes;
-    Halves {
-        first: word(s[0], s[1], s[2], s[3], s[4], s[5], s[6], s[7]),
-        second: word(s[8], s[9], s[10], s[11], s[12], s[13], s[14], s[15]),
+    fn from(x: Block) -> Halves {
+        let s = x.bytes;
+        Halves {
+            first: u64::from_le_bytes([s[0], s[1], s[2], s[3], s[4], s[5], s[6], s[7]]),
+            second: u64::from_le_bytes([s[8], s[9], s[10], s[11], s[12], s[13], s[14], s[15]]),
+        }
     }
 }
 
 // The block of two halves.
+// Of two words of `Planes`: by a `From` a `Halves` would first be made at each of the four calls.
 fn whole(x: u64, y: u64) -> Block
     ensures { result.bytes ≡ bytes_of8 x ++ bytes_of8 y }
 {
-    let s = bytes(x);
-    let t = bytes(y);
+    let s = x.to_le_bytes();
+    let t = y.to_le_bytes();
     Block {
         bytes: [
             s[0], s[1], s[2], s[3], s[4], s[5], s[6], s[7], t[0], t[1], t[2], t[3], t[4], t[5],
@@ -81,10 +55,10 @@ fn whole(x: u64, y: u64) -> Block
 pub fn pack(x: Four) -> Planes
     ensures { Packed x result }
 {
-    let a = halved(x.a);
-    let b = halved(x.b);
-    let c = halved(x.c);
-    let d = halved(x.d);
+    let a = Halves::from(x.a);
+    let b = Halves::from(x.b);
+    let c = Halves::from(x.c);
+    let d = Halves::from(x.d);
     spread(Planes {
         p0: a.first,
         p1: a.second,

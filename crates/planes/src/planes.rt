@@ -1,7 +1,7 @@
 // Four blocks in planes, and the steps of a round, §5.1: the planes go through them in turn, and each hands them back. ShiftRows is
 // left out (A. Adomnicai and T. Peyrin, "Fixslicing AES-like Ciphers", 2021): after k rounds row r stands turned by kr columns, which
 // MixColumns and the round keys allow for; after four rounds it stands as before.
-ghost use Rattle.std.specs.Prelude.{◌<◌};
+ghost use Rattle.std.specs.Prelude.{◌≡◌, ◌<◌};
 ghost use Rattle.std.specs.Int.Bits.{bit_xor};
 ghost use Rattle.model.specs.Aes.{s_box};
 ghost use Rattle.planes.specs.Lanes.{Lanewise, Added};
@@ -13,6 +13,7 @@ use crate::rotations::{rotate, rotate_either};
 use crate::sbox::sub_gates;
 
 // Eight words: plane i has bit i of every byte. Lane 16r + 4c + b, which is that bit of each word, has row r of column c of block b.
+// An array would be no plainer: the S-box's circuit and `mix_byte` take each plane by its number, and do something else with each.
 #[derive(Clone, Copy)]
 pub struct Planes {
     pub p0: u64,
@@ -42,6 +43,25 @@ fn mix_byte(b: Planes, cd: Planes, ab: Planes) -> Planes
     }
 }
 
+// The planes of the keys of round r, as a schedule has them.
+#[tactic(auto, unfolding(crate::specs::Sliced::key_planes))]
+fn key_planes(k: &[u64; 88], r: usize) -> Planes
+    requires { r < 11 }
+    ensures { result ≡ key_planes k.now r }
+{
+    let at = 8 * r;
+    Planes {
+        p0: k[at],
+        p1: k[at + 1],
+        p2: k[at + 2],
+        p3: k[at + 3],
+        p4: k[at + 4],
+        p5: k[at + 5],
+        p6: k[at + 6],
+        p7: k[at + 7],
+    }
+}
+
 impl Planes {
     // Two states, exclusive-ored.
     pub fn xor(self, other: Planes) -> Planes
@@ -67,6 +87,8 @@ impl Planes {
     }
 
     // Columns mixed: `below` has in each lane the next row's byte, and the row after the next stands in the same column.
+    // Two functions of two lines, here and below: one that takes the rotation as a closure would be longer by its
+    // contract.
     fn mix_straight(self, below: Planes) -> Planes
         ensures { MixedFrom (around 32) self below result }
     {
@@ -83,6 +105,9 @@ impl Planes {
     }
 
     // MixColumns, §5.1.3, of round r, which the last has not: the next row is r columns on, for the ShiftRows that were left out.
+    // The last round is asked for here, and the amounts by r % 4, as `cipher_from` has one text for all rounds: with a
+    // second caller of the S-box's circuit four blocks took 256 ns in place of 213 (bench/NOTES.md). By `if` and not by
+    // a `match`: tried, with it enciphering takes 1 % more instructions.
     pub fn mix_columns(self, r: usize) -> Planes
         ensures { MixedAt r self result }
     {
@@ -107,16 +132,6 @@ impl Planes {
         requires { r < 11 }
         ensures { Added self (key_planes k.now r) result }
     {
-        let at = 8 * r;
-        Planes {
-            p0: self.p0 ^ k[at],
-            p1: self.p1 ^ k[at + 1],
-            p2: self.p2 ^ k[at + 2],
-            p3: self.p3 ^ k[at + 3],
-            p4: self.p4 ^ k[at + 4],
-            p5: self.p5 ^ k[at + 5],
-            p6: self.p6 ^ k[at + 6],
-            p7: self.p7 ^ k[at + 7],
-        }
+        self.xor(key_planes(k, r))
     }
 }

@@ -1,53 +1,34 @@
 // Planes rotated: 16 lanes are a row, and 4 a column.
-ghost use Rattle.std.specs.Prelude.{◌<◌};
 ghost use Rattle.planes.specs.Rotations.{around, either, Moves, Moved};
 
 use crate::planes::Planes;
 
-// A word in which each lane has what stood n lanes on.
-fn rotate_word(x: u64, n: u32) -> u64
-    requires n_nonzero { 0 < n }
-    requires n_bound { n < 64 }
-    ensures { Moves (around n) x result }
-{
-    (x >> n) | (x << (64 - n))
-}
-
-// The same with n lanes where the mask has a 1, and m lanes where it has a 0.
+// A word in which each lane has what stood n lanes on where the mask has a 1, and m lanes where it has a 0.
 fn rotate_either_word(x: u64, n: u32, m: u32, mask: u64) -> u64
-    requires n_nonzero { 0 < n }
-    requires n_bound { n < 64 }
-    requires m_nonzero { 0 < m }
-    requires m_bound { m < 64 }
     ensures { Moves (either mask n m) x result }
 {
-    (rotate_word(x, n) & mask) | (rotate_word(x, m) & (mask ^ 0xFFFFFFFFFFFFFFFF))
+    (x.rotate_right(n) & mask) | (x.rotate_right(m) & (mask ^ 0xFFFFFFFFFFFFFFFF))
 }
 
-// Each plane rotated.
+// Each plane rotated. One function over the planes that takes a closure, for this and the next, would be no plainer: with its contract,
+// of a fact for each plane, it is longer than what it saves.
 pub fn rotate(x: Planes, n: u32) -> Planes
-    requires n_nonzero { 0 < n }
-    requires n_bound { n < 64 }
     ensures { Moved (around n) x result }
 {
     Planes {
-        p0: rotate_word(x.p0, n),
-        p1: rotate_word(x.p1, n),
-        p2: rotate_word(x.p2, n),
-        p3: rotate_word(x.p3, n),
-        p4: rotate_word(x.p4, n),
-        p5: rotate_word(x.p5, n),
-        p6: rotate_word(x.p6, n),
-        p7: rotate_word(x.p7, n),
+        p0: x.p0.rotate_right(n),
+        p1: x.p1.rotate_right(n),
+        p2: x.p2.rotate_right(n),
+        p3: x.p3.rotate_right(n),
+        p4: x.p4.rotate_right(n),
+        p5: x.p5.rotate_right(n),
+        p6: x.p6.rotate_right(n),
+        p7: x.p7.rotate_right(n),
     }
 }
 
 // Each plane rotated, by the mask.
 pub fn rotate_either(x: Planes, n: u32, m: u32, mask: u64) -> Planes
-    requires n_nonzero { 0 < n }
-    requires n_bound { n < 64 }
-    requires m_nonzero { 0 < m }
-    requires m_bound { m < 64 }
     ensures { Moved (either mask n m) x result }
 {
     Planes {

@@ -10,6 +10,8 @@ use crate::packing::Halves;
 use aes::Words;
 
 // Two columns as half a block.
+// Beside `fold` of aes, whose contract is of numbers and not of bytes: this one line shared would need a law between.
+// Here and in `between` halves are put together and taken out by shifts and `as`, which std has no other name for.
 fn joined(a: u32, b: u32) -> u64
     ensures { bytes_of8 result ≡ word_of a ++ word_of b }
 {
@@ -17,12 +19,14 @@ fn joined(a: u32, b: u32) -> u64
 }
 
 // A key's columns as its halves.
-pub fn halves_of(k: Words) -> Halves
-    ensures { of_halves result ≡ state_of k }
-{
-    Halves {
-        first: joined(k.a, k.b),
-        second: joined(k.c, k.d),
+impl From<Words> for Halves {
+    ghost from_gives = { λ k h. of_halves h ≡ state_of k };
+
+    fn from(k: Words) -> Halves {
+        Halves {
+            first: joined(k.a, k.b),
+            second: joined(k.c, k.d),
+        }
     }
 }
 
@@ -55,6 +59,8 @@ fn turned_once(k: Halves) -> Halves
 }
 
 // Turned back once or not at all.
+// How often is the round's number: here its lowest binary digit is looked at, in `turned` the next one. A function for
+// both digits would take the step too, a closure for one line each.
 fn turned_odd(k: Halves, r: usize) -> Halves
     ensures { turn_by (r % 2) (of_halves result) ≡ of_halves k }
 {

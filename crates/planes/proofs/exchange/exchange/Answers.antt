@@ -5,4 +5,4 @@ use Rattle.planes.proofs.exchange.exchange.Goals as goal
 
 pub returns : goal.returns
 unfolding planes_of
-returns c = exchanges _ _ _ _ _ _ _ c.swap-a.ensures c.swap-b.ensures c.swap-c.ensures c.swap-d.ensures refl
+returns c = let p = c.by_pairs.ensures in exchanges _ _ _ _ _ _ _ p.first p.second p.third p.fourth refl

@@ -5,4 +5,4 @@ use Rattle.planes.proofs.exchange.exchange_turned.Goals as goal
 
 pub returns : goal.returns
 unfolding planes_of
-returns c = exchanges_turned _ _ _ _ _ _ c.swap_turned-a.ensures c.swap_turned-b.ensures c.swap_turned-c.ensures c.swap_turned-d.ensures refl
+returns c = let p = c.by_pairs.ensures in exchanges_turned _ _ _ _ _ _ p.first p.second p.third p.fourth refl

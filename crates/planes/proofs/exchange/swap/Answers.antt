@@ -3,4 +3,4 @@ use Rattle.planes.proofs.Swaps.{swaps}
 use Rattle.planes.proofs.exchange.swap.Goals as goal
 
 pub returns : goal.returns
-returns c = swaps c.requires _ _ _ refl refl
+returns c = swaps c.args.by.alternates _ _ _ refl refl

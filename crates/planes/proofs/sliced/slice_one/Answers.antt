@@ -9,7 +9,7 @@ pub loop-r-init : goal.loop-r-init
 loop-r-init c = sliced_start (search rules)
 
 pub loop-r-preserved : goal.loop-r-preserved
-loop-r-preserved c = let is_x = c.halves_of-x.ensures ∙ key_state _ _ _ c.round_key.ensures in
+loop-r-preserved c = let is_x = c.from-x.ensures ∙ key_state _ _ _ c.round_key.ensures in
     sliced_turn c.loop-r.invariant (omega arith) is_x is_x c.put_key.ensures
 
 pub returns : goal.returns

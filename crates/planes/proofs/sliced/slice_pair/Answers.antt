@@ -10,8 +10,8 @@ pub next_constant-rc-requires : goal.next_constant-rc-requires
 next_constant-rc-requires c = slicing_byte c.loop-r.invariant
 
 pub loop-r-preserved : goal.loop-r-preserved
-loop-r-preserved c = slicing_turn _ _ c.loop-r.invariant c.loop-r-test.true c.halves_of.ensures c.halves_of-in-loop-r.ensures c.put_key.ensures c.next_key-x.ensures
+loop-r-preserved c = slicing_turn _ _ c.loop-r.invariant c.loop-r-test.true c.from.ensures c.from-in-loop-r.ensures c.put_key.ensures c.next_key-x.ensures
     c.next_key-y.ensures c.next_constant-rc.ensures
 
 pub returns : goal.returns
-returns c = slicing_end c.loop-r.invariant (omega arith) c.of_block-x.ensures c.of_block-y.ensures
+returns c = slicing_end c.loop-r.invariant (omega arith) c.from-x.ensures c.from-y.ensures

@@ -1,15 +1,5 @@
-use mathlib.Core.Path.{refl}
 use Rattle.planes.proofs.TurnedKeys.{turns_once}
 use Rattle.planes.proofs.turned.turned_once.Goals as goal
-
-pub swap_rows-x-requires : goal.swap_rows-x-requires
-swap_rows-x-requires c = refl
-
-pub swap_rows-y-requires : goal.swap_rows-y-requires
-swap_rows-y-requires c = refl
-
-pub swap_rows-requires : goal.swap_rows-requires
-swap_rows-requires c = refl
 
 pub returns : goal.returns
 returns c = turns_once _ _ _ _ _ _ c.between.ensures c.between-2.ensures c.swap_rows-x.ensures.0 c.swap_rows-y.ensures.0 c.swap_rows.ensures.0
