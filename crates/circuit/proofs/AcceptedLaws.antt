@@ -1,15 +1,15 @@
 -- What check's answer tells, and the sizes of an accepted circuit: they are the header's numbers, and none is above 65,535. Assumes nothing.
+use Rattle.std.specs.Prelude.{Result, Ok, Err}
 use Prim.Native.Nat.{ℕ, ◌+◌, ◌≤◌}
 use native.Mathlib.Omega.{arith}
 use mathlib.Core.Path.{◌≡◌, ap}
 use mathlib.Core.List.{List}
-use Rattle.model.specs.declared.Checked.{Checked}
 use Rattle.model.specs.declared.Refusal.{Refusal}
 use Rattle.model.specs.declared.Sizes.{Sizes}
 use Rattle.model.specs.Bytes.{tabulate}
 use Rattle.model.specs.Circuit.{circuit_of, inputs, outputs, gates, gate_at, charges}
 use Rattle.model.specs.Refusals.{Verdict, ◌then◌, verdict_of, circuit_verdict}
-use Rattle.model.specs.Operations.{sizes_of, checked_of, check_answer}
+use Rattle.model.specs.Operations.{sizes_of, check_answer, answer_of}
 use Rattle.model.proofs.Lists.{tabulate_length}
 use Rattle.model.proofs.Circuits.{charges_le}
 use Rattle.model.proofs.Verdicts.{yes_given, no_given}
@@ -17,11 +17,11 @@ use Rattle.model.proofs.Accepted.{HeaderHolds, accepted_header}
 use Rattle.circuit.specs.Accepted.{Accepted, Bounded}
 
 -- ---- check's answer r
-module _ (c : List ℕ) (r : Checked) (is-r : checked_of r ≡ check_answer c) where
-  pub check_refused : (f : Refusal) → r ≡ Checked.Refused f → verdict_of f ≡ circuit_verdict c
+module _ (c : List ℕ) (r : Result Sizes Refusal) (is-r : answer_of r ≡ check_answer c) where
+  pub check_refused : (f : Refusal) → r ≡ Err f → verdict_of f ≡ circuit_verdict c
   check_refused f e = no_given (circuit_verdict c) (verdict_of f) (sizes_of c) (rw e at is-r)
 
-  pub check_accepted : (z : Sizes) → r ≡ Checked.Accepted z → Accepted c z
+  pub check_accepted : (z : Sizes) → r ≡ Ok z → Accepted c z
   check_accepted z e =
       let t = yes_given (circuit_verdict c) z (sizes_of c) (rw e at is-r) in
       record { accepted = t.is_fine; sizes = t.is_result }
@@ -66,7 +66,7 @@ module _ (c : List ℕ) (z : Sizes) (known : Accepted c z) where
   left_to_try w = rw (known.accepted, known.sizes)
 
 -- as check gives them
-module _ (c : List ℕ) (r : Checked) (is-r : checked_of r ≡ check_answer c) (z : Sizes) (e : r ≡ Checked.Accepted z) where
+module _ (c : List ℕ) (r : Result Sizes Refusal) (is-r : answer_of r ≡ check_answer c) (z : Sizes) (e : r ≡ Ok z) where
   pub check_bounded : Bounded z
   check_bounded = bounded c z (check_accepted c r is-r z e)
 

@@ -1,21 +1,12 @@
 -- The conditions of an operation's arguments: the returns that are no single test of two numbers. Assumes nothing.
+use Rattle.std.specs.Prelude.{Result, Ok}
+use Rattle.model.specs.declared.Refusal.{Refusal}
 use Prim.Native.Nat.{ℕ, ◌*◌, ◌/◌, ◌%◌}
 use native.Mathlib.Omega.{arith}
 use mathlib.Core.Path.{◌≡◌}
 use mathlib.Core.Bool.{true, false}
 use lib.Dec.{eqb}
-use Rattle.model.specs.Refusals.{Verdict, fine, refused}
 use Rattle.model.proofs.Conditions.{same_holds, same_fails}
-use Rattle.circuit.specs.Answers.{bits_of}
-use Rattle.circuit.specs.declared.values.Bits.{Bits}
-
--- ---- check_values: the search's answer b
-module _ (b : Bits) (v : Verdict) (is_b : bits_of b ≡ v) where
-  pub bits_refused : (i : ℕ) → b ≡ Bits.Fault i → refused 10 i ≡ v
-  bits_refused i e = rw e at is_b
-
-  pub bits_done : b ≡ Bits.Fine → fine ≡ v
-  bits_done e = rw e at is_b
 
 -- ---- check_tokens: a bytes are k tokens
 module _ (a k : ℕ) where
@@ -28,4 +19,4 @@ module _ (a k : ℕ) where
   pub tokens_same : a % 16 ≡ 0 → a / 16 ≡ k → true ≡ eqb a (16 * k)
   tokens_same h l = same_holds a (16 * k) (omega arith)
 
-pub ruleset argument_cases = (bits_refused, bits_done, no_multiple, other_count, tokens_same)
+pub ruleset argument_cases = (no_multiple, other_count, tokens_same)

@@ -8,7 +8,8 @@ use mathlib.Core.Path.{◌≡◌, refl, sym, ◌∙◌}
 use mathlib.Core.Bool.{Bool, true, false, ◌||◌, false≢true}
 use borrow.Author.Tests.{leb-true}
 use lib.Dec.{eqb, leb}
-use Rattle.model.specs.declared.Truth.{Truth}
+use Rattle.model.specs.declared.AndGate.{AndGate}
+use Rattle.model.specs.declared.XorGate.{XorGate}
 use Rattle.model.specs.declared.Kind as Kinds
 use Rattle.model.specs.Bytes.{tabulate}
 use Rattle.model.specs.Circuit.{Kind, charged, free, refused, kinds, kind_of, charge}
@@ -50,14 +51,14 @@ code_other code h1 h2 h3 h4 h5 h6 h7 h8 h9 h10 h11 h12 h13 h14 =
 -- ---- code_charge and code_refused: what the match gave
 
 module _ (code : ℕ) (k : Kinds.Kind) (is_k : meaning k ≡ kind_of code) where
-  module _ (u v x : Truth) (e : k ≡ Kinds.Kind.Charged u v x) where
+  module _ (g : AndGate) (e : k ≡ Kinds.Kind.Charged g) where
     pub charge_charged : 1 ≡ charge (kind_of code)
     charge_charged = rw (← is_k, e)
 
     pub charged_known : false ≡ is_refused (kind_of code)
     charged_known = rw (← is_k, e)
 
-  module _ (p q c : Truth) (e : k ≡ Kinds.Kind.Free p q c) where
+  module _ (g : XorGate) (e : k ≡ Kinds.Kind.Free g) where
     pub charge_free : 0 ≡ charge (kind_of code)
     charge_free = rw (← is_k, e)
 
@@ -74,20 +75,6 @@ module _ (code : ℕ) (k : Kinds.Kind) (is_k : meaning k ≡ kind_of code) where
 pub ruleset charge_cases = (charge_charged, charge_free, charge_refused)
 
 pub ruleset refused_cases = (charged_known, free_known, refused_known)
-
--- ---- kind_bits
-
-module _ (k : Kinds.Kind) where
-  pub bits_charged : (u v x : Truth) → k ≡ Kinds.Kind.Charged u v x → (r : ℕ) → r ≡ apart 1 u.0 v.0 x.0 → r ≡ bits_apart (meaning k)
-  bits_charged u v x e r is_r = rw e is_r
-
-  pub bits_free : (p q c : Truth) → k ≡ Kinds.Kind.Free p q c → (r : ℕ) → r ≡ apart 0 p.0 q.0 c.0 → r ≡ bits_apart (meaning k)
-  bits_free p q c e r is_r = rw e is_r
-
-  pub bits_refused : k ≡ Kinds.Kind.Refused → 0 ≡ bits_apart (meaning k)
-  bits_refused e = rw e
-
-pub ruleset bits_cases = (bits_charged, bits_free, bits_refused)
 
 -- ---- code_bits, four_bits and all_bits
 

@@ -1,4 +1,4 @@
--- The header: its mark, and the returns of `read_header`. Assumes nothing.
+-- The header: the returns of `read_header`. Assumes nothing.
 use Prim.Native.Nat.{ℕ, ◌+◌, ◌*◌, ◌≤◌, ◌<◌}
 use mathlib.Core.Path.{◌≡◌, sym, ◌∙◌}
 use mathlib.Core.Bool.{Bool, true, false, not, ◌||◌}
@@ -11,58 +11,6 @@ use Rattle.model.specs.Circuit.{mark_at, inputs, outputs, gates, named, most_out
 use Rattle.model.specs.Refusals.{refused, refuse, ◌then◌, head_verdict}
 use Rattle.model.specs.Operations.{no, yes}
 use Rattle.circuit.specs.Answers.{header_answer}
-
--- ---- begins, is_named and known_mark
-module _ (s : List ℕ) where
-  pub begins_other : (y : ℕ) → (get_or s 0 0 ≡ 0x43 → ⊥) → false ≡ mark_at s 0 0x43 y
-  unfolding mark_at
-  begins_other y i = simp (ne_eqb _ _ i)
-
-  pub begins_second : (y : ℕ) → get_or s 0 0 ≡ 0x43 → eqb (get_or s 1 0) y ≡ mark_at s 0 0x43 y
-  unfolding mark_at
-  begins_second y i = simp (eq-eqb _ _ i)
-
-  pub named_is : (b : Bool) → b ≡ mark_at s 0 0x43 0x49 → b ≡ named s
-  unfolding named
-  named_is b e = e
-
-  -- what was found of the mark 43 48
-  module _ (b : Bool) (is_b : b ≡ mark_at s 0 0x43 0x48) where
-    pub known_first : b ≡ true → true ≡ (mark_at s 0 0x43 0x48 || named s)
-    known_first e = rw (← is_b, e)
-
-    pub known_second : b ≡ false → (x : Bool) → x ≡ named s → x ≡ (mark_at s 0 0x43 0x48 || named s)
-    known_second e x is_x = rw (← is_b, e) is_x
-
--- ---- most_outputs and circuit_length
-module _ (b : Bool) (n m q : ℕ) where
-  pub most_named : b ≡ true → n + q ≡ most_outputs b n q
-  unfolding most_outputs
-  most_named e = rw e
-
-  pub most_last : b ≡ false → q ≡ most_outputs b n q
-  unfolding most_outputs
-  most_last e = rw e
-
-  -- m against what `most_outputs` gave
-  module _ (x : ℕ) (is_x : x ≡ most_outputs b n q) where
-    pub most_passed : x < m → false ≡ leb m (most_outputs b n q)
-    most_passed l = rw (← is_x) (sym (lt-leb m x l))
-
-    pub most_kept : m ≤ x → true ≡ leb m (most_outputs b n q)
-    most_kept l = rw (← is_x) (sym (le-leb m x l))
-
-  pub length_named : b ≡ true → 8 + 7 * q + 4 * m ≡ circuit_length b m q
-  unfolding circuit_length
-  length_named e = rw e
-
-  pub length_last : b ≡ false → 8 + 7 * q ≡ circuit_length b m q
-  unfolding circuit_length
-  length_last e = rw e
-
-pub ruleset mark_cases = (begins_other, begins_second, named_is, known_first, known_second)
-
-pub ruleset by_mark = (most_named, most_last, most_passed, most_kept, length_named, length_last)
 
 -- ---- read_header
 module _ (s : List ℕ) (l : 8 ≤ length s) (known : Bool) (is_Known : known ≡ (mark_at s 0 0x43 0x48 || named s)) where

@@ -9,4 +9,3 @@ pub mod ArgumentLaws
 pub mod ValueLaws
 pub mod OutputLaws
 pub mod PlainLaws
-pub mod RefusalLaws

@@ -1,5 +1,6 @@
 -- The outputs: the search over the output records, its turns and its ends; and that `output_wire` reads the output's record, or that its sum does not
 -- overflow and is the output's wire. Assumes nothing.
+use Rattle.std.specs.Prelude.{Result, Ok, Err}
 use Prim.Native.Nat.{ℕ, ◌+◌, ◌*◌, ◌-◌, ◌≤◌, ◌<◌}
 use native.Mathlib.Omega.{arith}
 use mathlib.Core.Path.{◌≡◌, refl, sym, ◌∙◌}
@@ -9,7 +10,6 @@ use borrow.Author.Tests.{le-leb, lt-leb, eq-eqb, ne_eqb, not-true, not-false}
 use lib.ListN.{length, get_or}
 use mir.Syntax.{w16, w64}
 use mir.Val.{Fits}
-use Rattle.model.specs.declared.Ran.{Ran}
 use Rattle.model.specs.declared.Refusal.{Refusal}
 use Rattle.model.specs.declared.Sizes.{Sizes}
 use Rattle.model.specs.Bytes.{be16}
@@ -49,68 +49,35 @@ module _ (c : List ℕ) (h : Header) (k : ℕ) (start : RecordStart c h k) where
     inside : at + 4 ≤ length c
     inside = omega (arith, is_at, start.more, header.is_m, header.is_q, outputs_inside c holds start.start.by_name)
 
-    pub record_first : at < length c
-    record_first = omega (arith, inside)
-
-    pub record_next : (x : ℕ) → x ≤ 2 → Fits w64 (at + x)
-    record_next x l = omega (arith, is_at, record_few, record_small)
-
     pub record_second : at + 1 < length c
     record_second = omega (arith, inside)
+
+    pub record_next : Fits w64 (at + 2)
+    record_next = omega (arith, is_at, record_few, record_small)
 
     pub record_wire : at + 2 + 1 < length c
     record_wire = omega (arith, inside)
 
-    pub record_mark : (get_or c at 0 ≡ 0x43 → ⊥) → refused 25 (k + 1) ≡ output_verdict c k
-    unfolding output_verdict mark_at refuse ◌then◌
-    record_mark i = simp (← header.is_q, ← is_at, ne_eqb _ _ i)
+    module _ (b : Bool) (is_b : b ≡ mark_at c at 0x43 0x4F) where
+      pub record_mark : not b ≡ true → refused 25 (k + 1) ≡ output_verdict c k
+      unfolding output_verdict refuse ◌then◌
+      record_mark e = rw (← header.is_q, ← is_at, ← is_b, not-true b e)
 
-    module _ (i : get_or c at 0 ≡ 0x43) where
-      pub record_mark_2 : (get_or c (at + 1) 0 ≡ 0x4F → ⊥) → refused 25 (k + 1) ≡ output_verdict c k
-      unfolding output_verdict mark_at refuse ◌then◌
-      record_mark_2 j = simp (← header.is_q, ← is_at, eq-eqb _ _ i, ne_eqb _ _ j)
-
-      module _ (j : get_or c (at + 1) 0 ≡ 0x4F) (w : ℕ) (is_w : w ≡ be16 c (at + 2)) where
+      module _ (e : not b ≡ false) (w : ℕ) (is_w : w ≡ be16 c (at + 2)) where
         pub record_low : w < 1 → refused 26 (k + 1) ≡ output_verdict c k
-        unfolding output_verdict output_at mark_at refuse ◌then◌
-        record_low l = simp (← header.is_q, ← is_at, eq-eqb _ _ i, eq-eqb _ _ j, ← is_w, lt-leb _ _ l)
+        unfolding output_verdict output_at refuse ◌then◌
+        record_low l = simp (← header.is_q, ← is_at, ← is_b, not-false b e, ← is_w, lt-leb _ _ l)
 
         module _ (l : 1 ≤ w) where
           pub record_high : h.n + h.q < w → refused 26 (k + 1) ≡ output_verdict c k
-          unfolding output_verdict output_at mark_at refuse ◌then◌
-          record_high m = simp (← header.is_q, ← header.is_n, ← is_at, eq-eqb _ _ i, eq-eqb _ _ j, ← is_w, le-leb _ _ l, lt-leb _ _ m)
+          unfolding output_verdict output_at refuse ◌then◌
+          record_high m = simp (← header.is_q, ← header.is_n, ← is_at, ← is_b, not-false b e, ← is_w, le-leb _ _ l, lt-leb _ _ m)
 
           pub record_fine : w ≤ h.n + h.q → fine ≡ output_verdict c k
-          unfolding output_verdict output_at mark_at refuse ◌then◌
-          record_fine m = simp (← header.is_q, ← header.is_n, ← is_at, eq-eqb _ _ i, eq-eqb _ _ j, ← is_w, le-leb _ _ l, le-leb _ _ m)
+          unfolding output_verdict output_at refuse ◌then◌
+          record_fine m = simp (← header.is_q, ← header.is_n, ← is_at, ← is_b, not-false b e, ← is_w, le-leb _ _ l, le-leb _ _ m)
 
-pub ruleset record_room = (record_gates, record_small, record_wires, record_first, record_next, record_second, record_wire)
-
--- ---- search_records: the first k records have no fault
-pub record SearchingRecords (c : List ℕ) (m k : ℕ) : Type 0 where
-  pub within : k ≤ m
-  pub no_fault : first_of (output_verdict c) k ≡ fine
-
-pub records_start : (c : List ℕ) (m : ℕ) → SearchingRecords c m 0
-unfolding first_of
-records_start c m = record { within = omega arith; no_fault = refl }
-
-module _ (c : List ℕ) (m k : ℕ) (inv : SearchingRecords c m k) where
-  pub records_end : m ≤ k → fine ≡ first_of (output_verdict c) m
-  records_end l =
-      let w = inv.within in
-      let e : m ≡ k = omega arith in
-      rw (e, inv.no_fault)
-
-  module _ (more : k < m) (r : Ran) (is_r : ran_of r ≡ output_verdict c k) where
-    pub records_turn : r ≡ Ran.Done → SearchingRecords c m (k + 1)
-    records_turn e = record {
-      within = omega arith;
-      no_fault = first_next _ k inv.no_fault (sym (ran_done r _ is_r e));
-    }
-
-    pub records_fault : (f : Refusal) → r ≡ Ran.Refused f → verdict_of f ≡ first_of (output_verdict c) m
-    records_fault f e = sym (first_found (output_verdict c) k m _ _ inv.no_fault more (sym (ran_refused r _ is_r f e)))
+pub ruleset record_cases = (record_gates, record_small, record_wires, record_second, record_next, record_wire, record_mark, record_low, record_high, record_fine)
 
 -- ---- search_outputs
 pub marked_room : (c : List ℕ) (h : Header) → HeaderIs c h → 2 ≤ length c
@@ -127,6 +94,8 @@ module _ (c : List ℕ) (h : Header) (start : HeaderIs c h) (b : Bool) (is_b : b
   pub outputs_searched : not b ≡ false → (v : Verdict) → v ≡ first_of (output_verdict c) h.m → v ≡ outputs_verdict c
   unfolding outputs_verdict
   outputs_searched e v is = is ∙ rw (start.is_m, ← is_b, not-false b e)
+
+pub ruleset outputs_cases = (marked_room, outputs_none, outputs_named, outputs_searched)
 
 -- ---- output_wire
 module _ (c : List ℕ) (z : Sizes) (i : ℕ) (start : OutputStart c z i) where

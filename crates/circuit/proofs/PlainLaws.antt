@@ -1,4 +1,5 @@
 -- Plain: its refusals, what they tell where none holds, and what it leaves. Assumes nothing.
+use Rattle.std.specs.Prelude.{Result, Ok, Err}
 use Prim.Native.Nat.{ℕ, ◌+◌, ◌≤◌, ◌<◌}
 use native.Mathlib.Decide.{dec_lt}
 use native.Mathlib.Omega.{arith}
@@ -9,12 +10,10 @@ use lib.ListN.{length, get_or, take, get_or-eq_default}
 use lib.Seq.{take_at}
 use Rattle.model.specs.declared.Sizes.{Sizes}
 use Rattle.model.specs.declared.Refusal.{Refusal}
-use Rattle.model.specs.declared.Checked.{Checked}
-use Rattle.model.specs.declared.Ran.{Ran}
 use Rattle.model.specs.Bytes.{tabulate, over}
 use Rattle.model.specs.Circuit.{gates, gate_at, circuit_of, plain_values, gate_value}
 use Rattle.model.specs.Refusals.{fine, refused, ◌then◌, verdict_of, circuit_verdict, value_verdict, bits_verdict, values_verdict, room_verdict}
-use Rattle.model.specs.Operations.{sizes_of, checked_of, check_answer, ran_of, plain_verdict, PlainIs}
+use Rattle.model.specs.Operations.{sizes_of, check_answer, ran_of, plain_verdict, PlainIs, answer_of}
 use Rattle.model.proofs.Lists.{tabulate_length}
 use Rattle.model.proofs.Buffers.{over_length, over_over}
 use Rattle.model.proofs.Circuits.{wires_length}
@@ -44,22 +43,22 @@ module _ (c v o : List ℕ) where
   plain_refused i x e = record { answered = e; left = rw (← e) }
 
   -- check's answer r
-  module _ (r : Checked) (is_r : checked_of r ≡ check_answer c) where
-    pub plain_circuit : (f : Refusal) → r ≡ Checked.Refused f → PlainIs c v o (verdict_of f) o
+  module _ (r : Result Sizes Refusal) (is_r : answer_of r ≡ check_answer c) where
+    pub plain_circuit : (f : Refusal) → r ≡ Err f → PlainIs c v o (verdict_of f) o
     plain_circuit f e = plain_refused _ _ (rw plain_verdict_law (then_refused _ _ _ _ (check_refused c r is_r f e)))
 
     -- and that of what it left to try
-    module _ (z : Sizes) (e : r ≡ Checked.Accepted z) (t : Ran) (is_t : ran_of t ≡ plain_arguments z v (length o)) where
+    module _ (z : Sizes) (e : r ≡ Ok z) (t : Result Unit Refusal) (is_t : ran_of t ≡ plain_arguments z v (length o)) where
       known : Accepted c z
       known = check_accepted c r is_r z e
 
       tried : ran_of t ≡ plain_verdict c v (length o)
       tried = is_t ∙ left_to_try c z known (λ s. plain_arguments s v (length o)) ∙ sym (plain_verdict_law c v (length o))
 
-      pub plain_turned : (f : Refusal) → t ≡ Ran.Refused f → PlainIs c v o (verdict_of f) o
+      pub plain_turned : (f : Refusal) → t ≡ Err f → PlainIs c v o (verdict_of f) o
       plain_turned f g = plain_refused _ _ (ran_refused t _ tried f g)
 
-      module _ (g : t ≡ Ran.Done) where
+      module _ (g : t ≡ Ok tt) where
         both : (values_verdict z.n v ≡ fine) × (room_verdict (z.n + z.q) (length o) ≡ fine)
         unfolding plain_arguments
         both = then_fine _ _ (sym (ran_done t _ is_t g))

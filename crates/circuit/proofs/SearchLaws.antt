@@ -1,4 +1,6 @@
 -- The search over the gate records: its invariant, its turns and its ends. Assumes nothing.
+use Rattle.std.specs.Prelude.{Result, Ok, Err}
+use Rattle.model.specs.Operations.{answer_of}
 use Prim.Native.Nat.{ℕ, ◌+◌, ◌≤◌, ◌<◌}
 use native.Mathlib.Numerals.{add-one}
 use native.Mathlib.Omega.{arith}
@@ -14,8 +16,7 @@ use Rattle.model.specs.Operations.{no, yes}
 use Rattle.model.proofs.Lists.{tabulate_snoc}
 use Rattle.model.proofs.Circuits.{charge_le, charges_snoc}
 use Rattle.model.proofs.Verdicts.{Given, yes_given, no_turned, Turned, first_next, first_found}
-use Rattle.circuit.specs.Answers.{gate_of, record_answer, search_answer}
-use Rattle.circuit.specs.declared.gates.GateRead.{GateRead}
+use Rattle.circuit.specs.Answers.{record_answer, search_answer}
 
 -- k gates have no fault, and p of them are charged
 pub record Searching (s : List ℕ) (n q k p : ℕ) : Type 0 where
@@ -35,18 +36,18 @@ module _ (s : List ℕ) (n q k p : ℕ) (inv : Searching s n q k p) where
       let e : q ≡ k = omega arith in
       rw (e, inv.no_fault, inv.counted)
 
-  module _ (r : GateRead) (is-r : gate_of r ≡ record_answer s n k) (more : k < q) where
+  module _ (r : Result ℕ Refusal) (is-r : answer_of r ≡ record_answer s n k) (more : k < q) where
     -- p' is the count after the gate
-    fine_gate : (a : ℕ) → r ≡ GateRead.Fine a → Given (record_verdict s n k) a (charge (kind_of (gate_at s k).code))
+    fine_gate : (a : ℕ) → r ≡ Ok a → Given (record_verdict s n k) a (charge (kind_of (gate_at s k).code))
     fine_gate a e = yes_given (record_verdict s n k) a (charge (kind_of (gate_at s k).code)) (rw e at is-r)
 
-    at_most_one : (a : ℕ) → r ≡ GateRead.Fine a → a ≤ 1
+    at_most_one : (a : ℕ) → r ≡ Ok a → a ≤ 1
     at_most_one a e = rw (fine_gate a e).is_result (charge_le (kind_of (gate_at s k).code))
 
-    pub turn_counts : n + q ≤ 65535 → (a : ℕ) → r ≡ GateRead.Fine a → Fits w64 (p + a)
+    pub turn_counts : n + q ≤ 65535 → (a : ℕ) → r ≡ Ok a → Fits w64 (p + a)
     turn_counts few a e = omega (arith, at_most_one a e, inv.at_most, more)
 
-    pub turn_fine : (a p' : ℕ) → r ≡ GateRead.Fine a → p' ≡ p + a → Searching s n q (k + 1) p'
+    pub turn_fine : (a p' : ℕ) → r ≡ Ok a → p' ≡ p + a → Searching s n q (k + 1) p'
     turn_fine a p' e f =
         let g = fine_gate a e in
         let m = inv.at_most in
@@ -58,8 +59,10 @@ module _ (s : List ℕ) (n q k p : ℕ) (inv : Searching s n q k p) where
           counted = rw (add-one, tabulate_snoc k (gate_at s), charges_snoc, f, inv.counted, g.is_result);
         }
 
-    pub turn_fault : (f : Refusal) → r ≡ GateRead.Fault f → no (verdict_of f) ≡ search_answer s n q
+    pub turn_fault : (f : Refusal) → r ≡ Err f → no (verdict_of f) ≡ search_answer s n q
     turn_fault f e = go (no_turned (record_verdict s n k) (verdict_of f) _ (rw e at is-r))
       where
         go : Turned (record_verdict s n k) (verdict_of f) → no (verdict_of f) ≡ search_answer s n q
         go t = rw (first_found (record_verdict s n) k q t.number t.place inv.no_fault more t.is_v, t.is_w)
+
+pub ruleset search_cases = (search_start, search_end, turn_counts, turn_fine, turn_fault)

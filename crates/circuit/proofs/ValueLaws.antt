@@ -64,6 +64,10 @@ module _ (v : List ℕ) (all i : ℕ) (inv : Gathering v all i) where
   pub gather_end : length v ≤ i → all ≡ 0 → fine ≡ bits_verdict v
   gather_end l none = values_end v i (inv.if_none none) l
 
+pub ruleset values_cases = (values_start, values_turn, values_fault, values_end)
+
+pub ruleset gather_cases = (gather_start, gather_turn, gather_end)
+
 -- ---- plain_gates
 
 -- the values after k gates
@@ -180,8 +184,4 @@ module _ (c o : List ℕ) (n q : ℕ) (start : PlainStart c o n q) where
       let e : k ≡ gates c = omega (arith, start.is_q) in
       inv.so_far ∙ rw e
 
--- what the reads of a gate's operands ask
-pub ruleset gate_reads = (gate_low, gate_low_2, read_a, read_b)
-
--- and that what is read there is a truth value
-pub ruleset gate_bits = (bit_a, bit_b)
+pub ruleset gate_cases = (plain_start, gate_room, gate_small, gate_low, gate_low_2, read_a, read_b, bit_a, bit_b, plain_turn, plain_end)

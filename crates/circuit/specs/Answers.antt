@@ -1,4 +1,4 @@
--- The answers of the inner functions, in the model's terms: each enum as a verdict or an `Answer`, and what it must be.
+-- The answers of the inner functions, in the model's terms.
 use Rattle.std.specs.Prelude.{ℕ, zero, suc, ◌+◌, ◌*◌, ◌≤◌, ◌≡◌, List, [], ◌∷◌, length, get_or, take}
 use Rattle.model.specs.declared.Gate.{Gate}
 use Rattle.model.specs.declared.Kind as Kinds
@@ -6,19 +6,15 @@ use Rattle.model.specs.declared.Refusal.{Refusal}
 use Rattle.model.specs.declared.Sizes.{Sizes}
 use Rattle.model.specs.Bytes.{tabulate}
 use Rattle.model.specs.Circuit.{Kind, charged, free, refused, kind_of, charge, charges, inputs, outputs, gates, gate_at}
-use Rattle.model.specs.Refusals.{Verdict, fine, ◌then◌, verdict_of, number_of, place_of, head_verdict, gate_verdict, record_verdict, gates_verdict, circuit_verdict, values_verdict, room_verdict}
-use Rattle.model.specs.Operations.{Answer, no, yes, answer}
+use Rattle.model.specs.Refusals.{Verdict, fine, ◌then◌, number_of, place_of, head_verdict, gate_verdict, record_verdict, gates_verdict, circuit_verdict, values_verdict, room_verdict}
+use Rattle.model.specs.Operations.{Answer, answer}
 use Rattle.circuit.specs.declared.header.Header.{Header}
-use Rattle.circuit.specs.declared.header.HeaderRead.{HeaderRead}
-use Rattle.circuit.specs.declared.gates.GateRead.{GateRead}
-use Rattle.circuit.specs.declared.gates.Searched.{Searched}
-use Rattle.circuit.specs.declared.values.Bits.{Bits}
 
 -- ---- codes
 
 abbrev pub meaning : Kinds.Kind → Kind
-meaning (Kinds.Kind.Charged u v own) = charged u.0 v.0 own.0
-meaning (Kinds.Kind.Free p q c) = free p.0 q.0 c.0
+meaning (Kinds.Kind.Charged g) = charged g.u.bit g.v.bit g.own.bit
+meaning (Kinds.Kind.Free g) = free g.p.bit g.q.bit g.c.bit
 meaning Kinds.Kind.Refused = refused
 
 -- a gate of a free kind takes its operand a where a is 1, and b with it where both is 1; where a is 0 it takes b alone
@@ -54,28 +50,16 @@ bits_from (suc i) code = bits_apart (kind_of code) + 2 * bits_from i (code + 1)
 
 -- ---- the header
 
-abbrev pub header_of : HeaderRead → Answer Header
-header_of (HeaderRead.Fine h) = yes h
-header_of (HeaderRead.Refused f) = no (verdict_of f)
-
 abbrev pub header_answer : List ℕ → Answer Header
 header_answer s = answer (head_verdict s) (record { n = inputs s; m = outputs s; q = gates s })
 
 -- ---- the gates: a gate without a fault adds its charge to p
-
-abbrev pub gate_of : GateRead → Answer ℕ
-gate_of (GateRead.Fine x) = yes x
-gate_of (GateRead.Fault f) = no (verdict_of f)
 
 abbrev pub gate_answer : ℕ → Gate → Answer ℕ
 gate_answer own g = answer (gate_verdict own g) (charge (kind_of g.code))
 
 abbrev pub record_answer : List ℕ → ℕ → ℕ → Answer ℕ
 record_answer s n k = answer (record_verdict s n k) (charge (kind_of (gate_at s k).code))
-
-abbrev pub search_of : Searched → Answer ℕ
-search_of (Searched.Clean p) = yes p
-search_of (Searched.Fault f) = no (verdict_of f)
 
 abbrev pub search_answer : List ℕ → ℕ → ℕ → Answer ℕ
 search_answer s n q = answer (gates_verdict s n q) (charges (tabulate q (gate_at s)))
@@ -85,10 +69,6 @@ search_answer s n q = answer (gates_verdict s n q) (charges (tabulate q (gate_at
 -- every value is 0 or 1
 abbrev pub AllBits : List ℕ → Type 0
 AllBits v = (i : ℕ) → get_or v i 0 ≤ 1
-
-abbrev pub bits_of : Bits → Verdict
-bits_of Bits.Fine = fine
-bits_of (Bits.Fault i) = Verdict.refused 10 i
 
 -- 9, 10, 19 by a circuit's sizes: with the circuit's own before them, the model's `plain_verdict`, as `plain_verdict_law` of proofs/PlainLaws.antt shows
 unfoldable pub plain_arguments : Sizes → List ℕ → ℕ → Verdict

@@ -1,31 +1,45 @@
 // What a code means: its kind, and its value for two truth values.
+// A code is a byte, of which any may come in a file or in a list, and the model's `kind_of` is of any. What is asked
+// beside the match are bits of one number that the compiler makes of it (`spread` to `code_bit`): a jump by the code, a
+// loop over the codes and other places of the bits were tried and are slower (bench/NOTES.md, "Codes and branches"). So
+// two questions have two forms, `code_charge` and `used_charge`, `matched_kind` and `code_kind`. No `From` makes a kind
+// of a code, since both types are of other crates.
 ghost use Rattle.std.specs.Prelude.{◌≡◌, false, ◌+◌, ◌*◌, ◌≤◌};
 ghost use Rattle.model.specs.Circuit.{charged, free, value, kind_of, charge};
 ghost use Rattle.model.specs.Refusals.{is_refused};
 ghost use Rattle.circuit.specs.Answers.{meaning, TakesIs, apart, bits_apart, bits_from, kind_bit};
 
-use model::{Kind, Truth};
+use model::{AndGate, Kind, Truth, XorGate};
 
 // A charged kind: the pair (u, v) has a value of its own.
+// Here and in `free_kind` the three are plain bits, as the arms of `matched_kind` list them: with a `Truth` for each
+// the fourteen arms would be three times as long. Two functions, as the two kinds name their fields.
 fn charged_kind(u: u8, v: u8, own: u8) -> Kind
+    requires { (u ≤ 1) × (v ≤ 1) × (own ≤ 1) }
     ensures { meaning result ≡ charged u v own }
 {
-    Kind::Charged(Truth(u), Truth(v), Truth(own))
+    Kind::Charged(AndGate {
+        u: Truth { bit: u },
+        v: Truth { bit: v },
+        own: Truth { bit: own },
+    })
 }
 
 // A free kind: the value is pu ⊕ qv ⊕ c.
 fn free_kind(p: u8, q: u8, c: u8) -> Kind
+    requires { (p ≤ 1) × (q ≤ 1) × (c ≤ 1) }
     ensures { meaning result ≡ free p q c }
 {
-    Kind::Free {
-        p: Truth(p),
-        q: Truth(q),
-        c: Truth(c),
-    }
+    Kind::Free(XorGate {
+        p: Truth { bit: p },
+        q: Truth { bit: q },
+        c: Truth { bit: c },
+    })
 }
 
 // The match over the code number, one arm for each code that is not refused (01, Circuit; 02, job 2). It is the one place that knows
 // the codes: whatever else is asked of a code comes from here.
+#[tactic(auto, using(crate::proofs::CodeLaws::arm, crate::proofs::CodeLaws::code_other), unfolding(model::specs::Circuit::kinds, model::specs::Circuit::kind_of))]
 pub fn matched_kind(code: u8) -> Kind
     ensures { meaning result ≡ kind_of code }
 {
@@ -48,14 +62,13 @@ pub fn matched_kind(code: u8) -> Kind
     }
 }
 
-// What a code adds to p, for any code.
+// What a code adds to p, for any code: a number, as the model's `charge` is. A `match`, as `Kind` is no Option.
 pub fn code_charge(code: u8) -> usize
     ensures { result ≡ charge (kind_of code) }
 {
     match matched_kind(code) {
-        Kind::Charged(_, _, _) => 1,
-        Kind::Free { p: _, q: _, c: _ } => 0,
-        Kind::Refused => 0,
+        Kind::Charged(_) => 1,
+        _ => 0,
     }
 }
 
@@ -63,28 +76,25 @@ pub fn code_charge(code: u8) -> usize
 fn code_refused(code: u8) -> bool
     ensures { result ≡ is_refused (kind_of code) }
 {
-    match matched_kind(code) {
-        Kind::Charged(_, _, _) => false,
-        Kind::Free { p: _, q: _, c: _ } => false,
-        Kind::Refused => true,
-    }
+    matches!(matched_kind(code), Kind::Refused)
 }
 
 // Four bits in one number, sixteen places apart.
 fn spread(w: u64, x: Truth, y: Truth, z: Truth) -> u64
     requires { w ≤ 1 }
-    ensures { result ≡ apart w x.0 y.0 z.0 }
+    ensures { result ≡ apart w x.bit y.bit z.bit }
 {
-    w + 0x10000 * (x.0 as u64) + 0x100000000 * (y.0 as u64) + 0x1000000000000 * (z.0 as u64)
+    w + 0x10000 * (x.bit as u64) + 0x100000000 * (y.bit as u64) + 0x1000000000000 * (z.bit as u64)
 }
 
 // What a kind has, so: whether it is charged; and of a charged one its pair and the value there, of a free one p, q and c.
+// The one place where all three cases of `Kind` are asked for what they have.
 fn kind_bits(k: Kind) -> u64
     ensures { result ≡ bits_apart (meaning k) }
 {
     match k {
-        Kind::Charged(u, v, own) => spread(1, u, v, own),
-        Kind::Free { p, q, c } => spread(0, p, q, c),
+        Kind::Charged(g) => spread(1, g.u, g.v, g.own),
+        Kind::Free(g) => spread(0, g.p, g.q, g.c),
         Kind::Refused => 0,
     }
 }
@@ -128,7 +138,7 @@ fn code_bit(i: u8, code: u8) -> u8
     ((all_bits() >> (16 * (i as u32) + (code as u32))) % 2) as u8
 }
 
-// What a code that is not refused adds to p, for the walk over an accepted circuit.
+// What a code that is not refused adds to p, for the walk over an accepted circuit: the number that is added.
 pub fn used_charge(code: u8) -> usize
     requires { is_refused (kind_of code) ≡ false }
     ensures { result ≡ charge (kind_of code) }
@@ -137,6 +147,8 @@ pub fn used_charge(code: u8) -> usize
 }
 
 // Which operands a free gate takes: whether a, and whether b with it. One that does not take a takes b.
+// Two bits and not an enum of three cases: whoever evaluates makes a choice of the one and a mask of the other; two
+// masks were tried and are slower (bench/NOTES.md, "Free gates").
 #[derive(Clone, Copy)]
 pub struct Takes {
     pub a: Truth,
@@ -144,39 +156,49 @@ pub struct Takes {
 }
 
 // Those of a free code, by p and q.
+#[tactic(auto, using(crate::proofs::CodeLaws::code_known))]
 pub fn code_takes(code: u8) -> Takes
     requires { (is_refused (kind_of code) ≡ false) × (charge (kind_of code) ≡ 0) }
-    ensures { TakesIs (kind_of code) result.a.0 result.both.0 }
+    ensures { TakesIs (kind_of code) result.a.bit result.both.bit }
 {
     let p = code_bit(1, code);
     let q = code_bit(2, code);
     Takes {
-        a: Truth(p),
-        both: Truth(p * q),
+        a: Truth { bit: p },
+        both: Truth { bit: p * q },
     }
 }
 
 // The kind of a code, for the operations. It is what the match gives, and no jump by the code: codes come in any order, and a jump for
 // each would be mispredicted at nearly every gate.
+#[tactic(auto, using(crate::proofs::CodeLaws::kind_cases))]
 pub fn code_kind(code: u8) -> Kind
     ensures { meaning result ≡ kind_of code }
 {
     if code_refused(code) {
         return Kind::Refused;
     }
-    let x = Truth(code_bit(1, code));
-    let y = Truth(code_bit(2, code));
-    let z = Truth(code_bit(3, code));
+    let x = Truth {
+        bit: code_bit(1, code),
+    };
+    let y = Truth {
+        bit: code_bit(2, code),
+    };
+    let z = Truth {
+        bit: code_bit(3, code),
+    };
     if code_bit(0, code) == 1 {
-        return Kind::Charged(x, y, z);
+        return Kind::Charged(AndGate { u: x, v: y, own: z });
     }
-    Kind::Free { p: x, q: y, c: z }
+    Kind::Free(XorGate { p: x, q: y, c: z })
 }
 
 // Bit 2u+v of the code (01, Circuit).
+#[tactic(auto, unfolding(model::specs::Circuit::value))]
 pub fn code_value(code: u8, u: Truth, v: Truth) -> Truth
-    requires { (u.0 ≤ 1) × (v.0 ≤ 1) }
-    ensures { result.0 ≡ value code u.0 v.0 }
+    ensures { result.bit ≡ value code u.bit v.bit }
 {
-    Truth((code >> (2 * u.0 + v.0)) % 2)
+    Truth {
+        bit: (code >> (2 * u.bit + v.bit)) % 2,
+    }
 }

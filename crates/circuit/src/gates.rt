@@ -1,25 +1,17 @@
 // The gates of a circuit: one gate's faults, and the search over the gate records (refusals 5 to 7).
+// Records lie in the circuit at places by their number, as the file has them: each function takes the whole circuit, of
+// which the contracts speak, and n, q or k as they need them. Of a circuit that is not accepted yet there are no
+// `Sizes`. A gate's own wire is `n + k + 1`, at most 65,535 by the contract, so that `as u16` loses nothing; `try_from`
+// would need an answer for a case that never is.
 ghost use Rattle.std.specs.Prelude.{◌≡◌, ◌+◌, ◌*◌, ◌≤◌, ◌<◌, length};
 ghost use Rattle.model.specs.Circuit.{gate_at};
-ghost use Rattle.circuit.specs.Answers.{gate_of, gate_answer, record_answer, search_of, search_answer};
+ghost use Rattle.model.specs.Operations.{answer_of};
+ghost use Rattle.circuit.specs.Answers.{gate_answer, record_answer, search_answer};
 
 use crate::code::matched_kind;
+use crate::marks::mark_at;
 use buffer::read16;
 use model::{Gate, Kind, Refusal, Wire};
-
-// What one gate is found to be.
-#[derive(Clone, Copy)]
-pub enum GateRead {
-    Fine(usize), // what it adds to p
-    Fault(Refusal),
-}
-
-// What the search finds: the number of charged gates, or the first fault.
-#[derive(Clone, Copy)]
-pub enum Searched {
-    Clean(usize),
-    Fault(Refusal),
-}
 
 // Gate record k, from 0.
 pub fn gate_at(circuit: &[u8], k: usize) -> Gate
@@ -36,63 +28,44 @@ pub fn gate_at(circuit: &[u8], k: usize) -> Gate
     }
 }
 
-// Refusals 6 and 7 of one gate, by its own wire.
-pub fn read_gate(own: Wire, g: Gate) -> GateRead
-    ensures { gate_of result ≡ gate_answer own.0 g }
+// What a gate adds to p, or refusal 6 or 7, by its own wire. It is a number, as the model's `charge` is, to be added up.
+// `Kind` has three cases, and each has an answer of its own: a `match` is the shortest.
+#[tactic(auto, using(model::proofs::Conditions::conditions, crate::proofs::CodeLaws::charge_cases, crate::proofs::CodeLaws::refused_cases), unfolding(model::specs::Refusals::gate_verdict, model::specs::Circuit::operands_hold))]
+pub fn read_gate(own: Wire, g: Gate) -> Result<usize, Refusal>
+    ensures { answer_of result ≡ gate_answer own.0 g }
 {
-    if g.a.0 < 1 {
-        return GateRead::Fault(Refusal::Operands(own));
-    }
-    if g.b.0 <= g.a.0 {
-        return GateRead::Fault(Refusal::Operands(own));
-    }
-    if own.0 <= g.b.0 {
-        return GateRead::Fault(Refusal::Operands(own));
+    if g.a.0 < 1 || g.b <= g.a || own <= g.b {
+        return Err(Refusal::Operands(own));
     }
     match matched_kind(g.code) {
-        Kind::Charged(_, _, _) => GateRead::Fine(1),
-        Kind::Free { p: _, q: _, c: _ } => GateRead::Fine(0),
-        Kind::Refused => GateRead::Fault(Refusal::Code(own)),
+        Kind::Charged(_) => Ok(1),
+        Kind::Free(_) => Ok(0),
+        Kind::Refused => Err(Refusal::Code(own)),
     }
 }
 
-// Refusals 5 to 7 of gate record k, in a circuit of n inputs.
-pub fn read_record(circuit: &[u8], n: usize, k: usize) -> GateRead
+// The same of gate record k, in a circuit of n inputs; or refusal 5.
+#[tactic(auto, using(model::proofs::Conditions::conditions, crate::proofs::GateLaws::record_gate), unfolding(model::specs::Refusals::record_verdict))]
+pub fn read_record(circuit: &[u8], n: usize, k: usize) -> Result<usize, Refusal>
     requires { (8 + 7 * k + 7 ≤ length circuit.now) × (n + k < 65535) }
-    ensures { gate_of result ≡ record_answer circuit.now n k }
+    ensures { answer_of result ≡ record_answer circuit.now n k }
 {
-    let at = 8 + 7 * k;
     let own = Wire((n + k + 1) as u16);
-    if circuit[at] != 0x43 {
-        return GateRead::Fault(Refusal::GateMark(own));
-    }
-    if circuit[at + 1] != 0x47 {
-        return GateRead::Fault(Refusal::GateMark(own));
+    if !mark_at(circuit, 8 + 7 * k, 0x43, 0x47) {
+        return Err(Refusal::GateMark(own));
     }
     read_gate(own, gate_at(circuit, k))
 }
 
-// The search over the gate records, in file order: it leaves at the first gate with a fault, and counts the charged
-// gates on its way (01, Turned down, by number).
-pub fn search_gates(circuit: &[u8], n: usize, q: usize) -> Searched
+// The number of charged gates, or the first fault: the search goes over the gate records in file order and leaves at the first gate
+// with one (01, Turned down, by number).
+pub fn search_gates(circuit: &[u8], n: usize, q: usize) -> Result<usize, Refusal>
     requires { (8 + 7 * q ≤ length circuit.now) × (n + q ≤ 65535) }
-    ensures { search_of result ≡ search_answer circuit.now n q }
+    ensures { answer_of result ≡ search_answer circuit.now n q }
 {
-    let mut k: usize = 0;
     let mut p: usize = 0;
-    let found = loop {
-        if q <= k {
-            break Searched::Clean(p);
-        }
-        match read_record(circuit, n, k) {
-            GateRead::Fine(x) => {
-                p += x;
-            }
-            GateRead::Fault(f) => {
-                break Searched::Fault(f);
-            }
-        }
-        k += 1;
-    };
-    found
+    for k in 0..q {
+        p += read_record(circuit, n, k)?;
+    }
+    Ok(p)
 }

@@ -1,5 +1,9 @@
 // The outputs: the search over the output records of a circuit that names them (refusals 25 and 26), and which wire each output is
 // (01, Circuit; 02, job 8).
+// Circuit and header stay two arguments, and the contracts say that they belong together (`HeaderIs`, `OutputStart`):
+// they name the circuit's bytes, as crates/model says at `Sizes`. Records lie at places by their number, as the file
+// has them. The mark is asked where the two forms of a circuit differ. A wire of one is at most 65,535, so that `as
+// u16` loses nothing.
 ghost use Rattle.std.specs.Prelude.{◌≡◌, ◌+◌, ◌*◌, ◌<◌, get_or};
 ghost use Rattle.model.specs.Circuit.{circuit_of};
 ghost use Rattle.model.specs.Refusals.{first_of, output_verdict, outputs_verdict};
@@ -7,8 +11,9 @@ ghost use Rattle.model.specs.Operations.{ran_of};
 ghost use Rattle.circuit.specs.Outputs.{HeaderIs, NamedStart, RecordStart, OutputStart};
 
 use crate::header::{Header, is_named};
+use crate::marks::mark_at;
 use buffer::read16;
-use model::{Ran, Refusal, Sizes, Wire};
+use model::{Refusal, Sizes, Wire};
 
 // Where output record k, from 0, stands: past the header of 8 bytes, q gate records of 7 and k output records of 4.
 fn output_record(q: usize, k: usize) -> usize
@@ -19,56 +24,40 @@ fn output_record(q: usize, k: usize) -> usize
 }
 
 // Refusals 25 and 26 of output record k, from 0. The place counts from 1.
-fn read_output(circuit: &[u8], h: Header, k: usize) -> Ran
+fn read_output(circuit: &[u8], h: Header, k: usize) -> Result<(), Refusal>
     requires { RecordStart circuit.now h k }
     ensures { ran_of result ≡ output_verdict circuit.now k }
 {
     let place = k + 1;
     let at = output_record(h.q, k);
-    if circuit[at] != 0x43 {
-        return Ran::Refused(Refusal::OutputMark(place));
+    if !mark_at(circuit, at, 0x43, 0x4F) {
+        return Err(Refusal::OutputMark(place));
     }
-    if circuit[at + 1] != 0x4F {
-        return Ran::Refused(Refusal::OutputMark(place));
+    let w = read16(circuit, at + 2) as usize;
+    if w < 1 || h.n + h.q < w {
+        return Err(Refusal::OutputWire(place));
     }
-    let w = Wire(read16(circuit, at + 2));
-    if w.0 < 1 {
-        return Ran::Refused(Refusal::OutputWire(place));
-    }
-    if h.n + h.q < w.0 as usize {
-        return Ran::Refused(Refusal::OutputWire(place));
-    }
-    Ran::Done
+    Ok(())
 }
 
 // The search over the output records, in file order: it leaves at the first with a fault.
-fn search_records(circuit: &[u8], h: Header) -> Ran
+fn search_records(circuit: &[u8], h: Header) -> Result<(), Refusal>
     requires { NamedStart circuit.now h }
     ensures { ran_of result ≡ first_of (output_verdict circuit.now) h.m }
 {
-    let mut k: usize = 0;
-    let found = loop {
-        if h.m <= k {
-            break Ran::Done;
-        }
-        match read_output(circuit, h, k) {
-            Ran::Done => {}
-            Ran::Refused(f) => {
-                break Ran::Refused(f);
-            }
-        }
-        k += 1;
-    };
-    found
+    for k in 0..h.m {
+        read_output(circuit, h, k)?;
+    }
+    Ok(())
 }
 
 // Refusals 25 and 26, of a circuit whose header this is. One of mark 43 48 has no output records.
-pub fn search_outputs(circuit: &[u8], h: Header) -> Ran
+pub fn search_outputs(circuit: &[u8], h: Header) -> Result<(), Refusal>
     requires { HeaderIs circuit.now h }
     ensures { ran_of result ≡ outputs_verdict circuit.now }
 {
     if !is_named(circuit) {
-        return Ran::Done;
+        return Ok(());
     }
     search_records(circuit, h)
 }

@@ -1,17 +1,17 @@
 -- The operation: refusals 21 and 19, what they tell where neither holds, and the circuit that is left. Assumes nothing.
-use Prim.Native.Nat.{ℕ, ◌*◌, ◌-◌, ◌≤◌, ◌<◌}
+use Rattle.std.specs.Prelude.{Result, Ok, Err}
+use Prim.Native.Nat.{ℕ, ◌*◌, ◌-◌, ◌≤◌}
 use native.Mathlib.Omega.{arith}
 use mathlib.Core.Path.{◌≡◌, sym, ◌∙◌}
 use mathlib.Core.List.{List}
-use borrow.Author.Tests.{le-leb, lt-leb, leb-true, not-false}
+use borrow.Author.Tests.{leb-true, not-false}
 use lib.ListN.{length, take}
 use lib.Seq.{take_at}
 use mir.Syntax.{w16, w64}
 use mir.Val.{Fits}
-use Rattle.model.specs.declared.Ran.{Ran}
 use Rattle.model.specs.declared.Refusal.{Refusal}
 use Rattle.model.specs.Bytes.{over}
-use Rattle.model.specs.Refusals.{fine, refused, refuse, verdict_of, room_verdict}
+use Rattle.model.specs.Refusals.{fine, refused, verdict_of, room_verdict}
 use Rattle.model.specs.Operations.{yes, no, ran_of}
 use Rattle.model.proofs.Verdicts.{then_refused, then_done, ran_refused, ran_done, refuse_fine, and_both}
 use Rattle.model.proofs.Conditions.{room_fine}
@@ -21,21 +21,7 @@ use Rattle.comparator.specs.Parts.{WriteStart}
 use Rattle.comparator.proofs.WriteLaws.{gates_many}
 use Rattle.comparator.proofs.CompareLaws.{compares}
 
--- ---- 21: the three cases of a width
-module _ (w : ℕ) where
-  pub width_low : w < 1 → refused 21 w ≡ width_verdict w
-  unfolding width_verdict refuse
-  width_low h = rw (lt-leb 1 w h)
-
-  pub width_high : 1 ≤ w → 64 < w → refused 21 w ≡ width_verdict w
-  unfolding width_verdict refuse
-  width_high h l = rw (le-leb 1 w h, lt-leb w 64 l)
-
-  pub width_held : 1 ≤ w → w ≤ 64 → fine ≡ width_verdict w
-  unfolding width_verdict refuse
-  width_held h l = rw (le-leb 1 w h, le-leb w 64 l)
-
--- what it tells that none refuses
+-- ---- 21: what it tells of a width that it does not refuse
 record WidthHolds (w : ℕ) : Type 0 where
   low : 1 ≤ w
   high : w ≤ 64
@@ -58,12 +44,12 @@ module _ (w : ℕ) (o : List ℕ) where
       record { answered = rw (← e); left = rw (← e); is_comparator = λ f. absurd (let z : ◌≡◌ {A = ℕ} 0 1 = (let g = e ∙ f in cc) in omega arith) }
 
   -- what the width's check answered
-  module _ (r : Ran) (is_r : ran_of r ≡ width_verdict w) where
-    pub width_refused : (f : Refusal) → r ≡ Ran.Refused f → ComparatorIs w o (no (verdict_of f)) o
+  module _ (r : Result Unit Refusal) (is_r : ran_of r ≡ width_verdict w) where
+    pub width_refused : (f : Refusal) → r ≡ Err f → ComparatorIs w o (no (verdict_of f)) o
     unfolding comparator_verdict
     width_refused f e = refused_is _ _ (then_refused _ _ _ _ (ran_refused r _ is_r f e))
 
-    module _ (done : r ≡ Ran.Done) where
+    module _ (done : r ≡ Ok tt) where
       allowed : WidthHolds w
       allowed = width_fine w (ran_done r _ is_r done)
 
@@ -77,12 +63,12 @@ module _ (w : ℕ) (o : List ℕ) where
       width_fits = omega (arith, allowed.high)
 
       -- and that of the room
-      module _ (t : Ran) (is_t : ran_of t ≡ room_verdict (28 * w - 13) (length o)) where
-        pub room_refused : (f : Refusal) → t ≡ Ran.Refused f → ComparatorIs w o (no (verdict_of f)) o
+      module _ (t : Result Unit Refusal) (is_t : ran_of t ≡ room_verdict (28 * w - 13) (length o)) where
+        pub room_refused : (f : Refusal) → t ≡ Err f → ComparatorIs w o (no (verdict_of f)) o
         unfolding comparator_verdict comparator_length
         room_refused f e = refused_is _ _ (then_done _ _ _ (ran_done r _ is_r done) (ran_refused t _ is_t f e))
 
-        module _ (fits : t ≡ Ran.Done) where
+        module _ (fits : t ≡ Ok tt) where
           pub write_starts : WriteStart w o
           unfolding comparator_length
           write_starts = record { low = allowed.low; high = allowed.high; room = room_fine _ _ (sym (ran_done t _ is_t fits)) }

@@ -5,29 +5,29 @@
 ghost use Rattle.std.specs.Prelude.{◌≡◌, ◌-◌};
 ghost use Rattle.model.specs.Bytes.{over, put};
 ghost use Rattle.model.specs.Circuit.{record_bytes};
-ghost use Rattle.model.specs.Operations.{ran_of, wrote_of};
+ghost use Rattle.model.specs.Operations.{ran_of, answer_of};
 ghost use Rattle.comparator.specs.Comparator.{bit_gates, bits_to, comparator_bytes, width_verdict, ComparatorIs};
 ghost use Rattle.comparator.specs.Parts.{BitStart, WriteStart};
 
 use circuit::arguments::check_room;
 use circuit::writers::{write_circuit_header, write_gate};
-use model::{Ran, Refusal, Wire, Wrote};
+use model::{Refusal, Wire};
 
 // 21: the width is outside 1 to 64.
-fn check_width(width: usize) -> Ran
+#[tactic(auto, using(model::proofs::Conditions::conditions), unfolding(crate::specs::Comparator::width_verdict))]
+fn check_width(width: usize) -> Result<(), Refusal>
     ensures { ran_of result ≡ width_verdict width }
 {
-    if width < 1 {
-        return Ran::Refused(Refusal::Width(width));
+    if width < 1 || 64 < width {
+        return Err(Refusal::Width(width));
     }
-    if 64 < width {
-        return Ran::Refused(Refusal::Width(width));
-    }
-    Ran::Done
+    Ok(())
 }
 
 // The gates of one bit more, at a place: from its wires in the price and in the ceiling, and from the wire that says of the bits below it
 // whether price ≤ ceiling.
+// The place stands beside the buffer, as `put` of the contracts has it: see crates/buffer.
+#[tactic(auto, using(crate::proofs::WriteLaws::bit_written))]
 fn write_bit(circuit: &mut [u8], at: usize, price: u16, ceiling: u16, below: u16)
     requires { BitStart at below circuit.old }
     ensures { circuit.new ≡ put circuit.old at (record_bytes (bit_gates price ceiling below)) }
@@ -43,19 +43,19 @@ fn write_bit(circuit: &mut [u8], at: usize, price: u16, ceiling: u16, below: u16
 }
 
 // The gates of all bits above the lowest.
+#[tactic(auto, using(crate::proofs::WriteLaws::bits_start, crate::proofs::WriteLaws::bits_turn), unfolding(crate::specs::Comparator::comparator_length))]
 fn write_bits(circuit: &mut [u8], w: u16)
     requires { WriteStart w circuit.old }
     ensures { circuit.new ≡ put circuit.old 15 (record_bytes (bits_to w (w - 1))) }
 {
-    let mut k: u16 = 0;
-    while k + 1 < w {
+    for k in 0..w - 1 {
         let at = 15 + 28 * (k as usize);
         write_bit(circuit, at, k + 2, w + k + 2, 2 * w + 1 + 4 * k);
-        k += 1;
     }
 }
 
 // The circuit for an allowed width: the header, the gate of the lowest bit, and the gates of the others.
+#[tactic(auto, using(crate::proofs::WriteLaws::comparator_written), unfolding(crate::specs::Comparator::comparator_length))]
 fn write_comparator(circuit: &mut [u8], w: u16)
     requires { WriteStart w circuit.old }
     ensures { circuit.new ≡ over (comparator_bytes w) circuit.old }
@@ -67,20 +67,13 @@ fn write_comparator(circuit: &mut [u8], w: u16)
 }
 
 // Writes the circuit for a width of 1 to 64 bits, and answers its length; or refusal 21, or 19.
-pub fn comparator(width: usize, circuit: &mut [u8]) -> Wrote
-    ensures { ComparatorIs width circuit.old (wrote_of result) circuit.new }
+// A width that was checked fits 16 bits, so that `as u16` loses nothing.
+pub fn comparator(width: usize, circuit: &mut [u8]) -> Result<usize, Refusal>
+    ensures { ComparatorIs width circuit.old (answer_of result) circuit.new }
 {
-    match check_width(width) {
-        Ran::Refused(f) => Wrote::Refused(f),
-        Ran::Done => {
-            let needed = 28 * width - 13;
-            match check_room(needed, circuit.len()) {
-                Ran::Refused(f) => Wrote::Refused(f),
-                Ran::Done => {
-                    write_comparator(circuit, width as u16);
-                    Wrote::Done(needed)
-                }
-            }
-        }
-    }
+    check_width(width)?;
+    let needed = 28 * width - 13;
+    check_room(needed, circuit.len())?;
+    write_comparator(circuit, width as u16);
+    Ok(needed)
 }

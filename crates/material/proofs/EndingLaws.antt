@@ -1,4 +1,8 @@
 -- What a material ends in, by its mark: a law for each return of src/ending.rt. Assumes nothing.
+use Rattle.std.specs.Prelude.{Result, Ok, Err}
+use Rattle.std.specs.Result.{MatchResult, IsErrAnd}
+use Rattle.std.proofs.lemmas.Result.{err_from_is_err_and}
+use Rattle.model.specs.declared.Refusal.{Refusal}
 use Prim.Native.Nat.{ℕ, zero, suc, ◌+◌, ◌*◌, ◌-◌, ◌≤◌, ◌<◌}
 use native.Mathlib.Nat.{one-mul}
 use native.Mathlib.Omega.{arith}
@@ -9,7 +13,6 @@ use borrow.Author.Tests.{eq-eqb, ne_eqb}
 use lib.Dec.{eqb}
 use lib.ListN.{length, get_or, take, drop, length-take, length-drop}
 use lib.Seq.{get_or-take, get_or-drop, take-take, take-add, drop-drop, length-take-le}
-use Rattle.model.specs.declared.Ran.{Ran}
 use Rattle.model.specs.Circuit.{mark_at}
 use Rattle.model.specs.Ending.{first_hash, second_hash, colours, hashes, ending_of}
 use Rattle.model.specs.Material.{hashed, last_bytes, material_length}
@@ -20,8 +23,6 @@ use Rattle.model.specs.Kept.{last_byte01}
 use Rattle.model.proofs.Verdicts.{or_true, or_false, first_all, first_same}
 use Rattle.model.proofs.Endings.{second_hash_law}
 use Rattle.model.proofs.OldEnding.{byte_verdict}
-use Rattle.circuit.specs.Answers.{bits_of}
-use Rattle.circuit.specs.declared.values.Bits.{Bits}
 
 and_nothing : (b : Bool) → false ≡ (b && false)
 and_nothing true = refl
@@ -126,20 +127,27 @@ module _ (s : List ℕ) (start m : ℕ) where
       rw (bytes_first k (omega arith), as18_refuse start _ 10 k, ← e) (as18_then start _ _)
 
   -- ---- check_colours: the bytes as they were searched
-  module _ (fits : start + 2 + m ≤ length s) (t : Bits) (is_t : bits_of t ≡ bits_verdict bytes) where
+  module _ (fits : start + 2 + m ≤ length s) (t : Result Unit Refusal) (is_t : ran_of t ≡ bits_verdict bytes) where
     many : length bytes ≡ m
     many = simp (length-take, length-drop) (omega arith)
 
-    searched : as18 start (bits_of t) ≡ first_of (stored_verdict colours s start) m
+    searched : as18 start (ran_of t) ≡ first_of (stored_verdict colours s start) m
     searched = rw (is_t, many, first_same _ _ m (λ i h. byte_verdict s start i)) (sym (bytes_first m (omega arith)))
 
-    pub bytes_fine : t ≡ Bits.Fine → fine ≡ first_of (stored_verdict colours s start) m
+    bytes_fine : t ≡ Ok tt → fine ≡ first_of (stored_verdict colours s start) m
     bytes_fine e = rw e at searched
 
-    pub bytes_fault : (i : ℕ) → t ≡ Bits.Fault i → refused 18 start ≡ first_of (stored_verdict colours s start) m
-    bytes_fault i e = rw e at searched
+    bytes_fault : (f : Refusal) → t ≡ Err f → refused 18 start ≡ first_of (stored_verdict colours s start) m
+    bytes_fault f e = rw e at searched
 
-pub ruleset bytes_cases = (bytes_fine, bytes_fault)
+    -- and the search's fault made that of the record, as Q says of it
+    module _ (Q : Refusal → Refusal → Type 0) (is_Q : (f e : Refusal) → Q f e → e ≡ Refusal.LastRecord start) (r : Result Unit Refusal) where
+      pub bytes_searched : MatchResult t (λ x. r ≡ Ok x) (λ f. IsErrAnd r (Q f)) → ran_of r ≡ first_of (stored_verdict colours s start) m
+      bytes_searched h = go t refl h
+        where
+          go : (u : Result Unit Refusal) → t ≡ u → MatchResult u (λ x. r ≡ Ok x) (λ f. IsErrAnd r (Q f)) → ran_of r ≡ first_of (stored_verdict colours s start) m
+          go (Ok x) e h = rw h (bytes_fine e)
+          go (Err f) e h = let p = err_from_is_err_and r h in rw (p.1, is_Q f p.0 p.2) (bytes_fault f e)
 
 -- ---- check_stored
 module _ (s : List ℕ) (start m : ℕ) (b : Bool) (is_b : b ≡ hashed s) where
@@ -147,7 +155,7 @@ module _ (s : List ℕ) (start m : ℕ) (b : Bool) (is_b : b ≡ hashed s) where
   unfolding ending_of stored_verdict refuse
   stored_hashes e = rw (← is_b, e) (sym (unfold hashes in first_all _ m (λ i h. refl)))
 
-  pub stored_colours : b ≡ false → (r : Ran) → ran_of r ≡ first_of (stored_verdict colours s start) m
+  pub stored_colours : b ≡ false → (r : Result Unit Refusal) → ran_of r ≡ first_of (stored_verdict colours s start) m
       → ran_of r ≡ first_of (stored_verdict (ending_of (hashed s)) s start) m
   unfolding ending_of
   stored_colours e r is_r = is_r ∙ rw (← is_b, e)

@@ -1,4 +1,6 @@
 -- The last record: a law for each return of `check_last`. Assumes nothing.
+use Rattle.std.specs.Prelude.{Result}
+use Rattle.model.specs.declared.Refusal.{Refusal}
 use Prim.Native.Nat.{ℕ, ◌+◌, ◌≤◌}
 use native.Mathlib.Omega.{arith}
 use mathlib.Core.Path.{◌≡◌, ◌∙◌}
@@ -6,7 +8,6 @@ use mathlib.Core.Bool.{true, false}
 use mathlib.Core.List.{List}
 use lib.ListN.{length}
 use Rattle.model.specs.declared.Wire.{Wire}
-use Rattle.model.specs.declared.Ran.{Ran}
 use Rattle.model.specs.Circuit.{mark_at}
 use Rattle.model.specs.Ending.{ending_of}
 use Rattle.model.specs.Material.{hashed}
@@ -34,7 +35,7 @@ module _ (s : List ℕ) (start m : ℕ) (fits : start + 2 + m ≤ length s) (x :
   pub last_nothing : x ≡ Standing.Nothing → refused 18 start ≡ last_verdict s start m
   last_nothing e = wrong (rw e)
 
-  pub last_marked : x ≡ Standing.Last → (r : Ran) → ran_of r ≡ first_of (stored_verdict (ending_of (hashed s)) s start) m → ran_of r ≡ last_verdict s start m
+  pub last_marked : x ≡ Standing.Last → (r : Result Unit Refusal) → ran_of r ≡ first_of (stored_verdict (ending_of (hashed s)) s start) m → ran_of r ≡ last_verdict s start m
   unfolding last_verdict ◌then◌ refuse
   last_marked e r is_r = let h : true ≡ mark_at s start 0x47 (ending_of (hashed s)).last_mark = rw e at mark in is_r ∙ simp (← h)
 

@@ -1,7 +1,6 @@
 -- Laws of the functions.
 pub mod LengthLaws
 pub mod SizeLaws
-pub mod FileLaws
 pub mod RowLaws
 pub mod ReaderLaws
 pub mod RecordLaws
@@ -9,6 +8,5 @@ pub mod LastLaws
 pub mod MaterialLaws
 pub mod WellFormed
 pub mod ReadsOn
-pub mod WriterLaws
 pub mod AsSaid
 pub mod EndingLaws

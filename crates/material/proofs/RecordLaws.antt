@@ -1,6 +1,8 @@
 -- The row records: a law for each return of `is_row`, `next_record` and `pass_gate`, and the turns and ends of the way over the gates. Assumes nothing.
+use Rattle.std.specs.Prelude.{Result, Ok, Err}
 use Prim.Native.Nat.{ℕ, ◌+◌, ◌*◌, ◌≤◌, ◌<◌}
 use native.Mathlib.Omega.{arith}
+use mathlib.Core.Logic.{◌⊎◌, ⊎_elim}
 use mathlib.Core.Path.{◌≡◌, refl, sym, ap, ◌∙◌}
 use mathlib.Core.Bool.{Bool, true, false, not, ◌&&◌}
 use mathlib.Core.List.{List}
@@ -8,7 +10,8 @@ use lib.ListN.{length, get_or}
 use lib.Dec.{eqb}
 use borrow.Author.Tests.{eq-eqb, ne_eqb}
 use Rattle.model.specs.declared.Gate.{Gate}
-use Rattle.model.specs.declared.Truth.{Truth}
+use Rattle.model.specs.declared.AndGate.{AndGate}
+use Rattle.model.specs.declared.XorGate.{XorGate}
 use Rattle.model.specs.declared.Kind.{Kind}
 use Rattle.model.specs.declared.Sizes.{Sizes}
 use Rattle.model.specs.declared.Refusal.{Refusal}
@@ -22,7 +25,6 @@ use Rattle.model.specs.Operations.{Answer, no, yes, answer}
 use Rattle.model.proofs.Verdicts.{yes_given, Turned, no_turned, first_next, first_found}
 use Rattle.circuit.specs.Answers.{meaning}
 use Rattle.material.specs.declared.records.Cursor.{Cursor}
-use Rattle.material.specs.declared.records.Step.{Step}
 use Rattle.material.specs.declared.reader.Standing.{Standing}
 use Rattle.material.specs.declared.reader.Record.{Record}
 use Rattle.material.specs.Reader.{standing_at, found_record, is_row_of}
@@ -132,7 +134,7 @@ module _ (c : List ℕ) (z : Sizes) (s : List ℕ) (k at : ℕ) (turn : AtGate c
 
   -- gate k as it was read
   module _ (g : Gate) (is_g : g ≡ gate_at c k) where
-    pub gate_passed : (r : Step) → step_of r ≡ pass_answer s at g.code (z.n + k + 1) → step_of r ≡ row_answer c s k
+    pub gate_passed : (r : Result Cursor Refusal) → step_of r ≡ pass_answer s at g.code (z.n + k + 1) → step_of r ≡ row_answer c s k
     gate_passed r is-r =
         let after : row_start (circuit_of c) s (k + 1) ≡ at + charge (kind_of g.code) * record_length (scheme_of (get_or s 2 0)) = rw (row_next c s k inside, ← is_g, turn.placed) in
         rw (at_gate, after) is-r
@@ -143,16 +145,16 @@ module _ (c : List ℕ) (z : Sizes) (s : List ℕ) (k at : ℕ) (turn : AtGate c
     -- its code's kind as it was read
     module _ (kind : Kind) (is_kind : meaning kind ≡ kind_of g.code) where
       passed : charge (meaning kind) ≡ 0 → yes at ≡ row_answer c s k
-      passed e = gate_passed (Step.Next (record { at = at })) (answer_free s at g.code (z.n + k + 1) (rw is_kind at e))
+      passed e = gate_passed (Ok (record { at = at })) (answer_free s at g.code (z.n + k + 1) (rw is_kind at e))
 
-      pub gate_free : (p q d : Truth) → kind ≡ Kind.Free p q d → yes at ≡ row_answer c s k
-      gate_free p q d e = passed (rw e)
+      pub gate_free : (f : XorGate) → kind ≡ Kind.Free f → yes at ≡ row_answer c s k
+      gate_free f e = passed (rw e)
 
       pub gate_refused : kind ≡ Kind.Refused → yes at ≡ row_answer c s k
       gate_refused e = passed (rw e)
 
-      pub gate_charged : (u v o : Truth) → kind ≡ Kind.Charged u v o → (r : Step) → step_of r ≡ next_answer s at (z.n + k + 1) → step_of r ≡ row_answer c s k
-      gate_charged u v o e r is-r = gate_passed r (is-r ∙ answer_read s at g.code (z.n + k + 1) (λ none. absurd (omega (arith, one))) (omega (arith, room)))
+      pub gate_charged : (a : AndGate) → kind ≡ Kind.Charged a → (r : Result Cursor Refusal) → step_of r ≡ next_answer s at (z.n + k + 1) → step_of r ≡ row_answer c s k
+      gate_charged a e r is-r = gate_passed r (is-r ∙ answer_read s at g.code (z.n + k + 1) (λ none. absurd (omega (arith, one))) (omega (arith, room)))
         where
           one : charge (kind_of g.code) ≡ 1
           one = rw (← is_kind, e)
@@ -160,7 +162,10 @@ module _ (c : List ℕ) (z : Sizes) (s : List ℕ) (k at : ℕ) (turn : AtGate c
           room : at + 1 * record_length (scheme_of (get_or s 2 0)) ≤ length s
           room = rw (← one, turn.placed, is_g) (omega (arith, row_room c s (filed_holds c z s turn.known).whole k inside))
 
-pub ruleset gate_cases = (gate_free, gate_refused, gate_charged)
+      pub gate_uncharged : ((f : XorGate) × (kind ≡ Kind.Free f)) ⊎ (kind ≡ Kind.Refused) → yes at ≡ row_answer c s k
+      gate_uncharged e = ⊎_elim (λ f. gate_free f.0 f.1) gate_refused e
+
+pub ruleset gate_cases = (gate_uncharged, gate_charged)
 
 -- ---- check_records: of q gates k have no fault, and the next record is at the cursor
 pub record Reading (c s : List ℕ) (q k : ℕ) (here : Cursor) : Type 0 where
@@ -185,13 +190,13 @@ module _ (c : List ℕ) (z : Sizes) (s : List ℕ) (known : Filed c z s) where
       at_turn = record { known = known; more = more; few = omega (arith, few_wires c z known.circuit); placed = inv.placed }
 
       -- what was found at the gate
-      module _ (r : Step) (is-r : step_of r ≡ row_answer c s k) where
-        pub turn_next : (there : Cursor) → r ≡ Step.Next there → Reading c s z.q (k + 1) there
+      module _ (r : Result Cursor Refusal) (is-r : step_of r ≡ row_answer c s k) where
+        pub turn_next : (there : Cursor) → r ≡ Ok there → Reading c s z.q (k + 1) there
         turn_next there e =
             let t = yes_given (row_verdict (circuit_of c) s k) there.at (row_start (circuit_of c) s (k + 1)) (rw e at is-r) in
             record { within = omega arith; no_fault = first_next _ k inv.no_fault t.is_fine; placed = t.is_result }
 
-        pub turn_fault : (f : Refusal) → r ≡ Step.Fault f → verdict_of f ≡ records_verdict c s
+        pub turn_fault : (f : Refusal) → r ≡ Err f → verdict_of f ≡ records_verdict c s
         turn_fault f e = go (no_turned (row_verdict (circuit_of c) s k) (verdict_of f) _ (rw e at is-r))
           where
             go : Turned (row_verdict (circuit_of c) s k) (verdict_of f) → verdict_of f ≡ records_verdict c s
@@ -199,5 +204,7 @@ module _ (c : List ℕ) (z : Sizes) (s : List ℕ) (known : Filed c z s) where
                 let h : k < gates c = omega (arith, is_q c z known.circuit) in
                 rw (first_found (row_verdict (circuit_of c) s) k (gates c) t.number t.place inv.no_fault h t.is_v, t.is_w)
 
-        pub records_fault : (f : Refusal) → r ≡ Step.Fault f → no (verdict_of f) ≡ records_answer c s
+        pub records_fault : (f : Refusal) → r ≡ Err f → no (verdict_of f) ≡ records_answer c s
         records_fault f e = rw (← turn_fault f e)
+
+pub ruleset records_cases = (records_start, records_end, at_turn, turn_next, records_fault)

@@ -1,12 +1,13 @@
 -- What is known of the arguments, and the answers of the inner functions, in the model's terms.
-use Rattle.std.specs.Prelude.{ℕ, ◌+◌, ◌<◌, ◌≡◌, not, List, get_or}
+use Rattle.std.specs.Prelude.{ℕ, ◌+◌, ◌<◌, ◌≡◌, not, List, Result, Ok, Err, get_or}
+use Rattle.model.specs.declared.Refusal.{Refusal}
 use Rattle.model.specs.declared.Sizes.{Sizes}
 use Rattle.model.specs.Circuit.{circuit_of, gates, charges}
 use Rattle.model.specs.Material.{last_start}
 use Rattle.model.specs.Refusals.{Verdict, fine, refuse, first_of, verdict_of, file_verdict, row_start, row_verdict}
 use Rattle.model.specs.Operations.{Answer, no, yes, answer}
 use Rattle.circuit.specs.Accepted.{Accepted}
-use Rattle.material.specs.declared.records.Step.{Step}
+use Rattle.material.specs.declared.records.Cursor.{Cursor}
 use Rattle.material.specs.Reader.{standing_at, past_at, is_row_of}
 
 -- c is an accepted circuit of sizes z, and the header and the length of the material s are right for it
@@ -16,9 +17,9 @@ pub record Filed (c : List ℕ) (z : Sizes) (s : List ℕ) : Type 0 where
 
 -- ---- 17: a step is the next place, or the fault
 
-abbrev pub step_of : Step → Answer ℕ
-step_of (Step.Next there) = yes there.at
-step_of (Step.Fault f) = no (verdict_of f)
+abbrev pub step_of : Result Cursor Refusal → Answer ℕ
+step_of (Ok there) = yes there.at
+step_of (Err f) = no (verdict_of f)
 
 -- where the record of a wire is due: past what a reader finds at a place, if it is that record
 abbrev pub next_answer : List ℕ → ℕ → ℕ → Answer ℕ

@@ -1,4 +1,7 @@
 // The material file (01, Material): its lengths, its refusals 12 to 18, and the way from one of its records to the next.
+// The scheme is a byte wherever a length comes of it: a reader asks the length of a record in any bytes, before
+// anything is known of them, and the contracts are over `scheme_of` of any byte (`standing_at`). Sizes stay beside the
+// circuit: see `Sizes` in crates/model.
 #![tactic(auto)]
 
 ghost use Rattle.std.specs.Prelude.{◌≡◌, ◌≤◌};
@@ -12,13 +15,12 @@ ghost use Rattle.circuit.specs.Accepted.{Accepted};
 
 use crate::file::check_file;
 use crate::last::check_last;
-use crate::records::{Step, check_records};
-use model::{Ran, Sizes};
+use crate::records::check_records;
+use model::{Refusal, Sizes};
 
 pub mod ending;
 pub mod file;
 pub mod last;
-pub mod marks;
 pub mod reader;
 pub mod records;
 pub mod writers;
@@ -42,6 +44,7 @@ pub fn record_length(scheme: u8) -> usize
 }
 
 // Where the last record starts: past the header and the records of p charged gates.
+#[tactic(auto, using(crate::proofs::LengthLaws::start_cases))]
 pub fn last_start(scheme: u8, p: usize) -> usize
     requires { p ≤ 65535 }
     ensures { (result ≡ last_start scheme p) × (result ≤ 4456389) }
@@ -58,15 +61,11 @@ pub fn material_length(scheme: u8, last: usize, p: usize) -> usize
 }
 
 // Whether a material is well-formed for an accepted circuit of these sizes, or the first of refusals 12 to 18.
-pub fn check_material(circuit: &[u8], z: Sizes, material: &[u8]) -> Ran
+pub fn check_material(circuit: &[u8], z: Sizes, material: &[u8]) -> Result<(), Refusal>
     requires { Accepted circuit.now z }
     ensures { ran_of result ≡ material_verdict (circuit_of circuit.now) material.now }
 {
-    match check_file(material, z) {
-        Ran::Refused(f) => Ran::Refused(f),
-        Ran::Done => match check_records(circuit, z, material) {
-            Step::Fault(f) => Ran::Refused(f),
-            Step::Next(last) => check_last(material, z.m, last.at),
-        },
-    }
+    check_file(material, z)?;
+    let last = check_records(circuit, z, material)?;
+    check_last(material, z.m, last.at)
 }

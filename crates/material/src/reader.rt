@@ -1,13 +1,16 @@
 // A reader over the lent material (01, Material): it goes from one marked record to the next and remembers how far it is.
 // What it finds is worked out by functions of a slice and a place, `standing_at` and `past_at`, which its methods call. `first_record`,
 // `found_at` and `record_at` make a reader, and hand back what it finds and where it is then.
+// Places stand beside the lent material, as in crates/buffer. What stands at one is asked of a slice and a place (by a
+// list's walk) and of a reader: `Reader`, `first_record`, `found_at` and `record_at` are public, and named in
+// docs/ASSUMPTIONS.md.
 ghost use Rattle.std.specs.Prelude.{◌≡◌, ◌+◌, ◌≤◌, length};
 ghost use Rattle.material.specs.Reader.{gate_standing, last_standing, standing_at, past_at, found_record};
 
 use crate::ending::{is_hashed, last_mark};
-use crate::marks::mark_at;
 use crate::record_length;
 use buffer::read16;
+use circuit::marks::mark_at;
 use model::Wire;
 
 // The material, and where in it the reader is.
@@ -18,6 +21,8 @@ pub struct Reader<'a> {
 }
 
 // What stands at a place of a material.
+// `Nothing` is a case as in the model of the reader (`standing_at`): `past_at` and `is_row` match all cases at once,
+// and an `Option` around three would have the same four.
 #[derive(Clone, Copy)]
 pub enum Standing {
     // A charged gate's record, with its wire number: all of its rows lie within the material.
@@ -38,6 +43,7 @@ pub struct Record {
 }
 
 // A gate's record at a place where its mark stands.
+#[tactic(auto, using(crate::proofs::ReaderLaws::gate_cases))]
 fn gate_standing(material: &[u8], at: usize) -> Standing
     requires { at + 4 ≤ length material.now }
     ensures { result ≡ gate_standing material.now at }
@@ -51,18 +57,21 @@ fn gate_standing(material: &[u8], at: usize) -> Standing
 }
 
 // The last record at a place where no gate's record stands: by the header's mark, which is asked here alone and not at each gate.
+#[tactic(auto, using(crate::proofs::ReaderLaws::last_cases))]
 fn last_standing(material: &[u8], at: usize) -> Standing
     requires { at + 2 ≤ length material.now }
     ensures { result ≡ last_standing material.now at }
 {
     let mark = last_mark(is_hashed(material));
     if mark_at(material, at, 0x47, mark) {
-        return Standing::Last;
+        Standing::Last
+    } else {
+        Standing::Nothing
     }
-    Standing::Nothing
 }
 
 // What stands at a place, for any bytes and any place.
+#[tactic(auto, using(crate::proofs::ReaderLaws::standing_cases))]
 pub fn standing_at(material: &[u8], at: usize) -> Standing
     ensures { result ≡ standing_at material.now at }
 {
@@ -84,14 +93,14 @@ pub fn standing_at(material: &[u8], at: usize) -> Standing
 }
 
 // The place past what stands at a place, for any bytes and any place.
+#[tactic(auto, using(crate::proofs::ReaderLaws::past_cases))]
 pub fn past_at(material: &[u8], at: usize) -> usize
     ensures { result ≡ past_at material.now at }
 {
     match standing_at(material, at) {
         Standing::Gate(_) => at + record_length(material[2]),
-        Standing::Cut(_) => at,
         Standing::Last => material.len(),
-        Standing::Nothing => at,
+        Standing::Cut(_) | Standing::Nothing => at,
     }
 }
 

@@ -1,9 +1,6 @@
-use Prim.Native.Nat.{◌-◌}
-use Rattle.circuit.proofs.OutputLaws.{SearchingRecords}
+use Rattle.std.specs.Prelude.{◌≡◌}
+use Rattle.model.specs.Refusals.{fine, first_of, output_verdict}
 use Rattle.circuit.proofs.outputs.search_records.Given as goal
 
 abbrev pub invariant-loop-k : goal.invariant-loop-k
-invariant-loop-k l = SearchingRecords l.circuit l.h.m l.k
-
-abbrev pub decreases-loop-k : goal.decreases-loop-k
-decreases-loop-k l = l.h.m - l.k
+invariant-loop-k l = first_of (output_verdict l.circuit) l.k ≡ fine

@@ -1,11 +1,11 @@
-use Rattle.model.proofs.Verdicts.{steps}
+use Rattle.model.proofs.Verdicts.{steps, ran_passed}
 use Rattle.circuit.specs.Answers.{plain_arguments}
 use Rattle.circuit.proofs.values.plain_arguments.Goals as goal
 
-pub returns-in-Refused : goal.returns-in-Refused
+pub returns-in_err-check_values : goal.returns-in_err-check_values
 unfolding plain_arguments
-returns-in-Refused c = search steps
+returns-in_err-check_values c = ran_passed _ _ c.from_residual.ensures.1 _ (search (steps, c.in_err-check_values.ensures))
 
-pub returns-in-Done : goal.returns-in-Done
+pub returns : goal.returns
 unfolding plain_arguments
-returns-in-Done c = search steps
+returns c = search (steps, c.in_ok-check_values.ensures)

@@ -1,9 +1,5 @@
-use Prim.Native.Nat.{◌-◌}
 use Rattle.circuit.proofs.ValueLaws.{Evaluating}
 use Rattle.circuit.proofs.values.plain_gates.Given as goal
 
 abbrev pub invariant-loop-k : goal.invariant-loop-k
 invariant-loop-k l = Evaluating l.circuit l.initial.wires l.n l.q l.k l.wires
-
-abbrev pub decreases-loop-k : goal.decreases-loop-k
-decreases-loop-k l = l.q - l.k

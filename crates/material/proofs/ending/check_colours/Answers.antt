@@ -1,8 +1,6 @@
-use Rattle.material.proofs.EndingLaws.{bytes_cases}
+use borrow.Author.Rules.{rules}
+use Rattle.material.proofs.EndingLaws.{bytes_searched}
 use Rattle.material.proofs.ending.check_colours.Goals as goal
 
-pub returns-in-Fine : goal.returns-in-Fine
-returns-in-Fine c = search bytes_cases
-
-pub returns-in-Fault : goal.returns-in-Fault
-returns-in-Fault c = search bytes_cases
+pub returns : goal.returns
+returns c = bytes_searched _ _ _ c.requires _ c.search_values.ensures _ (λ f e h. search rules) _ c.map_err.ensures.cases

@@ -1,17 +1,18 @@
-use Rattle.material.proofs.RecordLaws.{records_start, at_turn, turn_next, records_fault, records_end}
+use Rattle.model.proofs.Verdicts.{passed}
+use Rattle.material.proofs.RecordLaws.{records_cases}
 use Rattle.material.proofs.records.check_records.Goals as goal
 
 pub loop-k-init : goal.loop-k-init
-loop-k-init c = search records_start
+loop-k-init c = search records_cases
 
 pub pass_gate-requires : goal.pass_gate-requires
-pass_gate-requires c = search at_turn
+pass_gate-requires c = search records_cases
 
 pub loop-k-preserved : goal.loop-k-preserved
-loop-k-preserved c = search turn_next
+loop-k-preserved c = search (records_cases, c.in_ok-here.was)
 
-pub returns-then-q-k : goal.returns-then-q-k
-returns-then-q-k c = search records_end
+pub returns-in_err-here : goal.returns-in_err-here
+returns-in_err-here c = rw (passed _ _ c.from_residual.ensures.1) (search (records_cases, c.in_err-here.was))
 
-pub returns-in-Fault : goal.returns-in-Fault
-returns-in-Fault c = search records_fault
+pub returns : goal.returns
+returns c = search records_cases

@@ -1,8 +1,0 @@
-use Rattle.circuit.proofs.HeaderLaws.{by_mark}
-use Rattle.circuit.proofs.header.circuit_length.Goals as goal
-
-pub returns-then-named : goal.returns-then-named
-returns-then-named c = search by_mark
-
-pub returns : goal.returns
-returns c = search by_mark
