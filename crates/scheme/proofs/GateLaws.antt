@@ -1,6 +1,6 @@
 -- A garbled gate is what its scheme says: a law for each return of the functions that garble. Assumes nothing.
 use mathlib.Core.Path.{◌≡◌, refl, sym, ◌∙◌}
-use mathlib.Core.List.{List}
+use mathlib.Core.List.{List, [], ◌∷◌}
 use Prim.Native.Nat.{ℕ, ◌-◌}
 use borrow.Author.Tests.{ne_eqb}
 use lib.ListN.{length}
@@ -34,14 +34,14 @@ four_hashings s = refl
 module _ (s : Site) (row0 row1 row2 row3 : Blocks.Block) where
   pub gax_garbled : row0.bytes ≡ row_at dual_key (site s) s.fresh.bytes 0 0 → row1.bytes ≡ row_at dual_key (site s) s.fresh.bytes 0 1 →
       row2.bytes ≡ row_at dual_key (site s) s.fresh.bytes 1 0 → row3.bytes ≡ row_at dual_key (site s) s.fresh.bytes 1 1 →
-      GarbledIs (gax dual_key) (sealings (site s)) (site s) (record { zero = s.fresh; row0 = row0; row1 = row1; row2 = row2; row3 = row3; calls = 4 })
+      GarbledIs (gax dual_key) (sealings (site s)) (site s) (record { zero = s.fresh; rows = row0 ∷ row1 ∷ row2 ∷ row3 ∷ []; calls = 4 })
   unfolding gax site
   gax_garbled a b c d = record { is_zero = refl; is_rows = cc; is_calls = sym (four_sealings (site s)) }
 
   -- row3 is not stored
   pub gaxr_garbled : (zero : Blocks.Block) → zero.bytes ≡ reduced_zero dual_key (site s) → row0.bytes ≡ row_at dual_key (site s) zero.bytes 0 1 →
       row1.bytes ≡ row_at dual_key (site s) zero.bytes 1 0 → row2.bytes ≡ row_at dual_key (site s) zero.bytes 1 1 →
-      GarbledIs (gaxr dual_key) (sealings (site s)) (site s) (record { zero = zero; row0 = row0; row1 = row1; row2 = row2; row3 = row3; calls = 4 })
+      GarbledIs (gaxr dual_key) (sealings (site s)) (site s) (record { zero = zero; rows = row0 ∷ row1 ∷ row2 ∷ row3 ∷ []; calls = 4 })
   unfolding gaxr
   gaxr_garbled zero z a b c = record { is_zero = z; is_rows = cc; is_calls = sym (four_sealings (site s)) }
 
@@ -70,7 +70,7 @@ module _ (H : Block → ℕ → Block) (s : Site) (u v own : ℕ) (k : kind_of s
     -- what they give together, and the gate's zero token
     pub half_garbled : (x : Block) → x ≡ h.a.bytes ⊕ times (colour a) rg.bytes ⊕ h.c.bytes ⊕ times (colour b) (re.bytes ⊕ a) →
         (zero : Blocks.Block) → zero.bytes ≡ x ⊕ times (1 - own) s.r.bytes → (none : Blocks.Block) →
-        GarbledIs (half H) (hashings (site s)) (site s) (record { zero = zero; row0 = rg; row1 = re; row2 = none; row3 = none; calls = 4 })
+        GarbledIs (half H) (hashings (site s)) (site s) (record { zero = zero; rows = rg ∷ re ∷ none ∷ none ∷ []; calls = 4 })
     unfolding half half_zero joined site
     half_garbled x is_x zero is_zero none =
         record {

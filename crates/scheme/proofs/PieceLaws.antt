@@ -5,21 +5,14 @@ use mathlib.Core.List.{List}
 use borrow.Author.Tests.{ne_eqb}
 use Rattle.model.specs.Aes.{Block, ◌⊕◌, times, block, key_expansion, cipher, fixed_key, aes, π, double, quadruple}
 use Rattle.model.specs.Circuit.{value}
-use Rattle.model.specs.Tokens.{colour, free_zero}
+use Rattle.model.specs.Tokens.{colour}
 use Rattle.model.specs.Scheme.{Site}
 use Rattle.model.specs.Gax.{key_block, carried, token_of, value_at, sealed, row_at, dual_key}
-use Rattle.model.specs.Gaxr.{reduced_zero}
 use Rattle.model.specs.Hashes.{answered, hash_block, hash_call, hash, sigma, rekeyed_call, rekeyed_hash, hash_call_of, hash_of}
-use Rattle.model.specs.HalfGates.{joined}
 use Rattle.scheme.specs.declared.cipher.Answers.{Answers}
 use Rattle.planes.specs.declared.packing.Four.{Four}
 use Rattle.scheme.specs.Garbled.{AnswersAre, HashedFour, HashesAre}
 use Rattle.model.proofs.Xor.{⊕_assoc, ⊕_zero, ⊕_length}
-
--- the token of a colour: y is R where the token carries v = 1
-pub token_is : (r x : Block) (c v : ℕ) (y a : Block) → a ≡ x ⊕ y → y ≡ times v r → v ≡ carried x c → a ≡ token_of r x c
-unfolding token_of
-token_is r x c v y a is_a is_y is_v = rw (is_a, is_y, is_v)
 
 -- a gate's value at the colours c and d, which carry u and v
 pub value_is : (s : Site) (c d u v x : ℕ) → x ≡ value s.code u v → u ≡ carried s.Xa c → v ≡ carried s.Xb d → x ≡ value_at s c d
@@ -29,12 +22,6 @@ value_is s c d u v x is_x is_u is_v = rw (is_x, is_u, is_v)
 -- K, from 2A, 4B and T: a and b are the first two
 pub key_is : (a b : Block) (t : ℕ) (n z k : Block) → k ≡ a ⊕ z → z ≡ b ⊕ n → n ≡ block t → k ≡ a ⊕ b ⊕ block t
 key_is a b t n z k is_k is_z is_n = rw (is_k, is_z, is_n)
-
--- E of z: p is π(k), where x and y are 2A and 4B
-pub dual_is : (a b : Block) (t : ℕ) (z x y k p u r : Block) → r ≡ p ⊕ u → p ≡ π k → u ≡ k ⊕ z → k ≡ x ⊕ y ⊕ block t → x ≡ double a → y ≡ quadruple b
-    → r ≡ dual_key a b t z
-unfolding dual_key key_block
-dual_is a b t z x y k p u r is_r is_p is_u is_k is_x is_y = rw (is_r, is_p, is_u, is_k, is_x, is_y)
 
 -- a block enciphered, ⊕ itself: p is the block enciphered
 pub masked_is : (w : List ℕ) (x p r : Block) → r ≡ p ⊕ x → p ≡ cipher w x → r ≡ cipher w x ⊕ x
@@ -78,17 +65,6 @@ pub row_is : (s : Site) (x : Block) (c d : ℕ) (mask y z r : Block) (v : ℕ) �
     → y ≡ times v s.R → v ≡ value_at s c d → r ≡ row_at dual_key s x c d
 unfolding row_at sealed
 row_is s x c d mask y z r v is_r is_mask is_z is_y is_v = rw (is_r, is_mask, is_z, is_y, is_v) (masked _ _ _ _)
-
--- scheme 2's zero token, from the mask of colours 0,0
-pub reduced_is : (s : Site) (mask : Block) (v : ℕ) (y a : Block) → a ≡ mask ⊕ y → mask ≡ sealed dual_key s 0 0 (block 0) → y ≡ times v s.R
-    → v ≡ value_at s 0 0 → a ≡ reduced_zero dual_key s
-unfolding reduced_zero
-reduced_is s mask v y a is_a is_mask is_y is_v = rw (is_a, is_mask, is_y, is_v)
-
--- 2x ⊕ i
-pub hash_block_is : (x : Block) (i : ℕ) (y n k : Block) → k ≡ y ⊕ n → y ≡ double x → n ≡ block i → k ≡ hash_block x i
-unfolding hash_block
-hash_block_is x i y n k is_k is_y is_n = rw (is_k, is_y, is_n)
 
 -- H: p is π(k)
 pub hash_is : (x : Block) (i : ℕ) (k p h : Block) → k ≡ hash_block x i → p ≡ π k → h ≡ p ⊕ k → h ≡ hash x i
@@ -151,15 +127,3 @@ half_row_is x y z v r is_r is_v = rw (is_r, is_v)
 pub join_is : (ha hb G E A B x u v w y z : Block) (s t : ℕ) → x ≡ ha ⊕ u → u ≡ v ⊕ w → v ≡ times s G → s ≡ colour A → w ≡ hb ⊕ y
     → y ≡ times t z → z ≡ E ⊕ A → t ≡ colour B → x ≡ ha ⊕ times (colour A) G ⊕ hb ⊕ times (colour B) (E ⊕ A)
 join_is ha hb G E A B x u v w y z s t is_x is_u is_v is_s is_w is_y is_z is_t = rw (is_x, is_u, is_v, is_s, is_w, is_y, is_z, is_t)
-
--- the token of a half-gate, from the two hashes
-pub joined_is : (H : Block → ℕ → Block) (g : ℕ) (G E A B ha hb x : Block) → x ≡ ha ⊕ times (colour A) G ⊕ hb ⊕ times (colour B) (E ⊕ A)
-    → ha ≡ H A (2 * g) → hb ≡ H B (2 * g + 1) → x ≡ joined H g G E A B
-unfolding joined
-joined_is H g G E A B ha hb x is_x is_ha is_hb = rw (is_x, is_ha, is_hb)
-
--- a free gate, from its operands' parts
-pub free_zero_is : (p q c : ℕ) (r xa xb x u v w y : Block) → x ≡ u ⊕ v → u ≡ times p xa → v ≡ w ⊕ y → w ≡ times q xb → y ≡ times c r
-    → x ≡ free_zero p q c r xa xb
-unfolding free_zero
-free_zero_is p q c r xa xb x u v w y is_x is_u is_v is_w is_y = rw (is_x, is_u, is_v, is_w, is_y)

@@ -1,6 +1,6 @@
 -- A site and a garbled gate, as the crate's structs, in the model's terms. Document 01, "Scheme 1" to "Scheme 3"; 02, job 7.
-use Rattle.std.specs.Prelude.{ℕ, ◌≡◌, List, [], ◌∷◌, length, take}
-use Rattle.model.specs.Aes.{Block, ◌⊕◌, block, key_expansion, cipher, fixed_key}
+use Rattle.std.specs.Prelude.{ℕ, ◌≡◌, List, map, length, take}
+use Rattle.model.specs.Aes.{Block, ◌⊕◌, block, cipher}
 use Rattle.model.specs.Scheme as Model
 use Rattle.model.specs.Gax.{sealed, dual_key}
 use Rattle.model.specs.HalfGates.{generator_tweak, evaluator_tweak}
@@ -18,7 +18,7 @@ site s = record { R = s.r.bytes; fresh = s.fresh.bytes; g = s.g.0; code = s.code
 -- r is the scheme's zero token and its rows at the site σ, by as many encryptions as are asked
 pub record GarbledIs {L : Type 0} (S : Model.Scheme) (asked : List L) (σ : Model.Site) (r : GarbledGate) : Type 0 where
   pub is_zero : r.zero.bytes ≡ S.zero_token σ
-  pub is_rows : take S.stored (r.row0.bytes ∷ r.row1.bytes ∷ r.row2.bytes ∷ r.row3.bytes ∷ []) ≡ S.rows σ
+  pub is_rows : take S.stored (map (λ b. b.bytes) r.rows) ≡ S.rows σ
   pub is_calls : r.calls ≡ length asked
 
 -- r is a token, by as many encryptions as are asked
@@ -33,10 +33,6 @@ pub record AnswersAre (x y : Block) (r : Answers) : Type 0 where
   pub is_calls : r.calls ≡ 2
 
 -- ---- four at once
-
--- k is the schedule of the fixed key in planes, for all four blocks
-abbrev pub FixedPlanes : List ℕ → Type 0
-FixedPlanes k = IsSliced (λ b. key_expansion fixed_key) k
 
 -- each block of r is that of x enciphered, ⊕ that of x: under a schedule of its own
 pub record MaskedUnder (ws : ℕ → List ℕ) (x r : Four) : Type 0 where

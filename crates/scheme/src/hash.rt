@@ -1,21 +1,24 @@
 // The hashes of half-gates: that of scheme 3 (01), under π's key, and that of scheme 4 (02, job 7), which is re-keyed with each tweak. Garbling
 // hashes four tokens at once, in planes, and evaluating two, by the tables. An encryption each; key expansions are not counted.
+// Each token stands beside its tweak: a struct of the two would be made for one call and taken apart there. The forms
+// of the two hashes share `hash_block` and `masked_four`; what is left of each is its rule, written for each of the
+// four lanes. `hash_gate` and `hash_held` each ask for the scheme byte once: asked in each half-gate it was tried and
+// is slower (bench/NOTES.md). It stays a byte: see `garble_gate`.
 ghost use Rattle.std.specs.Prelude.{◌≡◌, ◌≤◌};
-ghost use Rattle.aes.specs.Lent.{Lent};
-ghost use Rattle.aes.specs.Tables.{IsTTables};
-ghost use Rattle.model.specs.Aes.{IsSBox};
 ghost use Rattle.model.specs.Hashes.{hash_block, hash, rekeyed_hash, hash_of};
 ghost use Rattle.model.specs.Ending.{output_tweak};
 ghost use Rattle.model.specs.HalfGates.{generator_tweak, evaluator_tweak};
-ghost use Rattle.scheme.specs.Garbled.{FixedPlanes, AnswersAre, HashedFour, HashesAre};
+ghost use Rattle.scheme.specs.Garbled.{AnswersAre, HashedFour, HashesAre};
 
+use crate::Garbler;
 use crate::cipher::{Answers, masked_four};
-use aes::{encrypt_each_under, permute_pair};
+use aes::{FixedKey, SBox, TTables, encrypt_each_under};
 use block::Block;
 use model::Wire;
-use planes::{Four, slice_pair};
+use planes::{FixedPlanes, Four, slice_pair};
 
 // "2x ⊕ i" (01, Scheme 3).
+#[tactic(auto, unfolding(model::specs::Hashes::hash_block))]
 fn hash_block(x: Block, i: u64) -> Block
     ensures { result.bytes ≡ hash_block x.bytes i }
 {
@@ -23,21 +26,19 @@ fn hash_block(x: Block, i: u64) -> Block
 }
 
 // "H(x,i) = π(2x ⊕ i) ⊕ 2x ⊕ i" (01, Scheme 3), of two tokens.
-pub fn hash_pair(tables: &[u32; 1024], w: &[u8; 176], x: Block, i: u64, y: Block, j: u64) -> Answers
-    requires { Lent tables.now w.now }
+pub fn hash_pair(key: &FixedKey, x: Block, i: u64, y: Block, j: u64) -> Answers
     ensures { AnswersAre (hash x.bytes i) (hash y.bytes j) result }
 {
     let k = hash_block(x, i);
     let l = hash_block(y, j);
-    let p = permute_pair(tables, w, k, l);
+    let p = key.permute_pair(k, l);
     let x = p.x.xor(k);
     let y = p.y.xor(l);
     Answers { x, y, calls: 2 }
 }
 
 // "H(x,i) = AES under key i of σ(x), ⊕ σ(x)" (02, job 7), of two tokens.
-fn rekeyed_each(tables: &[u32; 1024], x: Block, i: u64, y: Block, j: u64) -> Answers
-    requires { IsTTables tables.now }
+fn rekeyed_each(tables: &TTables, x: Block, i: u64, y: Block, j: u64) -> Answers
     ensures { AnswersAre (rekeyed_hash x.bytes i) (rekeyed_hash y.bytes j) result }
 {
     let k = x.sigma();
@@ -49,37 +50,31 @@ fn rekeyed_each(tables: &[u32; 1024], x: Block, i: u64, y: Block, j: u64) -> Ans
 }
 
 // Scheme 3's hash of two tokens under i and of two under j: four encryptions at once.
-fn fixed_four(k: &[u64; 88], a: Block, x: Block, i: u64, b: Block, y: Block, j: u64) -> Four
-    requires { FixedPlanes k.now }
+fn fixed_four(fixed: &FixedPlanes, a: Block, x: Block, i: u64, b: Block, y: Block, j: u64) -> Four
     ensures { HashedFour hash a.bytes x.bytes i b.bytes y.bytes j result }
 {
-    let u = hash_block(a, i);
-    let v = hash_block(x, i);
-    let w = hash_block(b, j);
-    let z = hash_block(y, j);
     masked_four(
-        k,
+        &fixed.words,
         Four {
-            a: u,
-            b: v,
-            c: w,
-            d: z,
+            a: hash_block(a, i),
+            b: hash_block(x, i),
+            c: hash_block(b, j),
+            d: hash_block(y, j),
         },
     )
 }
 
 // Scheme 3's hash of two tokens of an output, by its number from 1: "t = 2 times (65,536+k)" (02, job 12). In planes, as at a gate: nothing is
 // looked up by a token, and two of the four lanes are thrown away.
-pub fn hash_output(k: &[u64; 88], x: Block, y: Block, number: usize) -> Answers
-    requires fixed_planes { FixedPlanes k.now }
-    requires number_bound { number ≤ 65536 }
+pub fn hash_output(fixed: &FixedPlanes, x: Block, y: Block, number: usize) -> Answers
+    requires { number ≤ 65536 }
     ensures { AnswersAre (hash x.bytes (output_tweak number)) (hash y.bytes (output_tweak number)) result }
 {
     let i = 2 * (65536 + number as u64);
     let u = hash_block(x, i);
     let v = hash_block(y, i);
     let h = masked_four(
-        k,
+        &fixed.words,
         Four {
             a: u,
             b: v,
@@ -92,39 +87,24 @@ pub fn hash_output(k: &[u64; 88], x: Block, y: Block, number: usize) -> Answers
     Answers { x, y, calls: 2 }
 }
 
-// Scheme 4's. The two keys are tweaks, which are public: the S-box in t is looked up for them, and for nothing else.
-fn rekeyed_four(t: &[u8; 256], a: Block, x: Block, i: u64, b: Block, y: Block, j: u64) -> Four
-    requires { IsSBox t.now }
+// Scheme 4's. The two keys are tweaks, which are public: the S-box is looked up for them, and for nothing else.
+fn rekeyed_four(s_box: &SBox, a: Block, x: Block, i: u64, b: Block, y: Block, j: u64) -> Four
     ensures { HashedFour rekeyed_hash a.bytes x.bytes i b.bytes y.bytes j result }
 {
-    let k = slice_pair(t, Block::of_number(i), Block::of_number(j));
-    let e = a.sigma();
-    let f = x.sigma();
-    let g = b.sigma();
-    let h = y.sigma();
+    let k = slice_pair(s_box, Block::of_number(i), Block::of_number(j));
     masked_four(
         &k,
         Four {
-            a: e,
-            b: f,
-            c: g,
-            d: h,
+            a: a.sigma(),
+            b: x.sigma(),
+            c: b.sigma(),
+            d: y.sigma(),
         },
     )
 }
 
 // H of the scheme byte, 3 or 4, for a gate that is garbled: of A and A⊕R under j=2g, of B and B⊕R under k=2g+1.
-pub fn hash_gate(
-    k: &[u64; 88],
-    t: &[u8; 256],
-    scheme: u8,
-    r: Block,
-    a: Block,
-    b: Block,
-    g: Wire,
-) -> Four
-    requires fixed_planes { FixedPlanes k.now }
-    requires sbox { IsSBox t.now }
+pub fn hash_gate(garbler: &Garbler, scheme: u8, r: Block, a: Block, b: Block, g: Wire) -> Four
     ensures { HashesAre (hash_of scheme) r.bytes a.bytes b.bytes g.0 result }
 {
     let i = 2 * (g.0 as u64);
@@ -132,27 +112,19 @@ pub fn hash_gate(
     let x = a.xor(r);
     let y = b.xor(r);
     if scheme == 4 {
-        return rekeyed_four(t, a, x, i, b, y, j);
+        return rekeyed_four(&garbler.s_box, a, x, i, b, y, j);
     }
-    fixed_four(k, a, x, i, b, y, j)
+    fixed_four(&garbler.fixed, a, x, i, b, y, j)
 }
 
 // The same for a gate that is evaluated: of A under j=2g, of B under k=2g+1.
-pub fn hash_held(
-    tables: &[u32; 1024],
-    w: &[u8; 176],
-    scheme: u8,
-    a: Block,
-    b: Block,
-    g: Wire,
-) -> Answers
-    requires { Lent tables.now w.now }
+pub fn hash_held(key: &FixedKey, scheme: u8, a: Block, b: Block, g: Wire) -> Answers
     ensures { AnswersAre (hash_of scheme a.bytes (generator_tweak g.0)) (hash_of scheme b.bytes (evaluator_tweak g.0)) result }
 {
     let j = 2 * (g.0 as u64);
     let k = j + 1;
     if scheme != 4 {
-        return hash_pair(tables, w, a, j, b, k);
+        return hash_pair(key, a, j, b, k);
     }
-    rekeyed_each(tables, a, j, b, k)
+    rekeyed_each(&key.tables, a, j, b, k)
 }

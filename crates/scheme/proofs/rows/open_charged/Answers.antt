@@ -1,3 +1,4 @@
+use Rattle.scheme.proofs.BitLaws.{row_number}
 use Rattle.scheme.proofs.RowLaws.{charged_opens, charged_rooms}
 use Rattle.scheme.proofs.rows.open_charged.Goals as goal
 
@@ -14,4 +15,4 @@ pub held_row-row-requires : goal.held_row-row-requires
 held_row-row-requires c = search charged_rooms
 
 pub returns : goal.returns
-returns c = search charged_opens
+returns c = search (charged_opens, row_number)
