@@ -17,7 +17,7 @@ use Rattle.model.specs.HalfGates.{half_a, half_b, row_g, row_e, joined, half_zer
 use Rattle.model.specs.Garbling.{scheme_of}
 use Rattle.model.specs.Calls.{garbled_calls}
 use Rattle.model.proofs.Calls.{garbled_four}
-use Rattle.model.proofs.Places.{stored_low, stored_high}
+use Rattle.model.proofs.Places.{stored_high}
 use Rattle.block.specs.declared.Block as Struct
 use Rattle.scheme.specs.Garbled.{site, GarbledIs}
 use Rattle.scheme.specs.declared.Site.{Site}
@@ -72,7 +72,7 @@ Made k s made = GarbledIs (scheme_of k) (garbled_calls k s) s made
 
 -- what was garbled with the block that scheme 1 asks for is garbled as the site says
 module _ (p : Plan) (f : Block) (g : GateIn) (made : GarbledGate) (u v x : ℕ) (is_charged_kind : kind_of g.code ≡ charged u v x)
-    (fresh : FreshIs p.seed.bytes p.wanted g.code g.own.0 f) (is : Made p.wanted.scheme (refreshed f (site_at p g)) made) where
+    (fresh : FreshIs p.seed.key.bytes p.wanted g.code g.own.0 f) (is : Made p.wanted.scheme (refreshed f (site_at p g)) made) where
   one_charge : charge (kind_of g.code) ≡ 1
   one_charge = rw is_charged_kind
 
@@ -96,9 +96,9 @@ module _ (p : Plan) (f : Block) (g : GateIn) (made : GarbledGate) (u v x : ℕ) 
       go true e = of_gax (eqb-true p.wanted.scheme 1 e)
       go false e = of_other (eqb-false p.wanted.scheme 1 e)
 
--- ---- make_charged: at the gate g, by the plan p
+-- ---- GateIn::garbled: at the gate g, by the plan p
 pub make_done : (p : Plan) (f : Struct.Block) (g : GateIn) (made : GarbledGate) (u v x : ℕ) → kind_of g.code ≡ charged u v x
-    → FreshIs p.seed.bytes p.wanted g.code g.own.0 f.bytes
+    → FreshIs p.seed.key.bytes p.wanted g.code g.own.0 f.bytes
     → (let s : Site = record { r = p.r; fresh = f; g = g.own; code = g.code; xa = g.xa; xb = g.xb } in Made p.wanted.scheme (site s) made)
     → Made p.wanted.scheme (site_at p g) made
 unfolding site
@@ -110,7 +110,6 @@ module _ (scheme stored code u v x : ℕ) (m : List ℕ) (at : ℕ) (z : List �
   pub charged_record : WriterRoom at stored m
   unfolding Model.record_length
   charged_record = record {
-    low = omega (arith, start.is_stored, stored_low scheme);
     high = omega (arith, start.is_stored, stored_high scheme);
     room = rw start.is_stored (omega (arith, start.record_room));
   }

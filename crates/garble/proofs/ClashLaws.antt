@@ -1,4 +1,5 @@
 -- 30: the search of the pairs in a material as it was written, and the zeros. Assumes nothing.
+use Rattle.std.specs.Prelude.{Result, Ok, Err}
 use Prim.Native.Nat.{ℕ, ◌+◌, ◌*◌, ◌-◌, ◌≤◌, ◌<◌}
 use native.Mathlib.Nat.{mul-suc, mul-le-mul_left}
 use native.Mathlib.Omega.{arith}
@@ -10,7 +11,6 @@ use lib.ListN.{length, take, drop, replicate, length-replicate, length-drop}
 use lib.Seq.{take-append-le, drop-append-le}
 use Rattle.model.specs.declared.Sizes.{Sizes}
 use Rattle.model.specs.declared.Wanted.{Wanted}
-use Rattle.model.specs.declared.Ran.{Ran}
 use Rattle.model.specs.declared.Refusal.{Refusal}
 use Rattle.model.specs.Bytes.{over, equal_bytes}
 use Rattle.model.specs.Circuit.{charges, circuit_of, inputs, outputs}
@@ -22,8 +22,7 @@ use Rattle.model.specs.Material.{join_blocks, last_start, last_bytes, material}
 use Rattle.model.specs.Evaluation.{bytes_for, stored_at}
 use Rattle.model.specs.Refusals.{Verdict, fine, refused, refuse, first_of, verdict_of, clash_at, clash_verdict}
 use Rattle.model.specs.Operations.{no, yes, ran_of, file_length, made, garble_made}
-use Rattle.model.proofs.Bits.{told_low, told_yes, told_no}
-use Rattle.model.proofs.Verdicts.{first_all, first_same, Together, together_turn, ran_refused, ran_done}
+use Rattle.model.proofs.Verdicts.{first_all, first_same, first_next, first_found, search_start, Together, together_start, together_turn, together_end, ran_refused, ran_done}
 use Rattle.model.proofs.Buffers.{over_over, over_length}
 use Rattle.model.proofs.Places.{length_last}
 use Rattle.model.proofs.Outputs.{outputs_many}
@@ -38,28 +37,45 @@ use Rattle.garble.specs.Clash.{pair_verdict, found_verdict}
 use Rattle.garble.specs.Whole.{WholeStart, WholeIs, WipeStart, WipedTo, OutcomeIs}
 use Rattle.garble.proofs.WalkLaws.{zeros_long}
 
--- ---- the search: the pair of output i as it was read
-module _ (s : List ℕ) (at m i : ℕ) (room : at + 32 * m ≤ length s) (h : i < m) (x y : Block) (is_x : x ≡ take 16 (drop (at + 32 * i) s))
-    (is_y : y ≡ take 16 (drop (at + 32 * i + 16) s)) (d : ℕ) (is_d : d ≡ cond (equal_bytes x y) 0 1) where
-  pair_is : pair_verdict hashes s at i ≡ refuse (equal_bytes x y) 30 (i + 1)
-  unfolding pair_verdict
-  pair_is = rw (is_x, is_y) (unfold hashes in rw (first_at s at i, second_at s at i (omega (arith, room, h))))
+-- ---- the pair of output i, as it was read
+pub pair_read : (s : List ℕ) (at i : ℕ) → at + 32 * i + 32 ≤ length s → (x y : Block) → x ≡ take 16 (drop (at + 32 * i) s) → y ≡ take 16 (drop (at + 32 * i + 16) s)
+    → (d : ℕ) → d ≡ cond (equal_bytes x y) 0 1 → 1 - d ≡ cond (hashes.clash (bytes_for hashes s at i)) 1 0
+unfolding hashes
+pair_read s at i room x y is_x is_y d is_d =
+    rw (first_at s at i, second_at s at i room, ← is_x, ← is_y, is_d) (go (equal_bytes x y))
+  where
+    go : (b : Bool) → 1 - cond b 0 1 ≡ cond b 1 0
+    go true = refl
+    go false = refl
 
-  pub pair_apart : (d ≡ 0 → ⊥) → pair_verdict hashes s at i ≡ fine
-  unfolding refuse
-  pair_apart n = pair_is ∙ rw (told_no (equal_bytes x y) (λ z. n (is_d ∙ z)))
+-- ---- the search: 1 for output i where its pair is equal
+module _ (s : List ℕ) (at i d : ℕ) (is_d : d ≡ cond (hashes.clash (bytes_for hashes s at i)) 1 0) where
+  pub pair_apart : (d ≡ 1 → ⊥) → fine ≡ pair_verdict hashes s at i
+  unfolding pair_verdict refuse
+  pair_apart n = go (hashes.clash (bytes_for hashes s at i)) refl
+    where
+      go : (b : Bool) → hashes.clash (bytes_for hashes s at i) ≡ b → fine ≡ pair_verdict hashes s at i
+      go true e = absurd (n (rw e at is_d))
+      go false e = rw e
 
-  pub pair_equal : d ≡ 0 → pair_verdict hashes s at i ≡ refused 30 (i + 1)
-  unfolding refuse
-  pair_equal z = pair_is ∙ rw (told_yes (equal_bytes x y) (sym is_d ∙ z))
+  pub pair_equal : d ≡ 1 → refused 30 (i + 1) ≡ pair_verdict hashes s at i
+  unfolding pair_verdict refuse
+  pair_equal one = go (hashes.clash (bytes_for hashes s at i)) refl
+    where
+      go : (b : Bool) → hashes.clash (bytes_for hashes s at i) ≡ b → refused 30 (i + 1) ≡ pair_verdict hashes s at i
+      go true e = rw e
+      go false e = let z : d ≡ 0 = rw e at is_d in absurd (omega (arith, one, z))
 
-  pub pair_together : (all : ℕ) → Together (pair_verdict hashes s at) m all i → Together (pair_verdict hashes s at) m (bit_or all (1 - d)) (i + 1)
-  pair_together all inv = together_turn (pair_verdict hashes s at) m all i inv h (1 - d) (λ none. pair_apart (λ z. absurd (omega (arith, none, z))))
+  pub pair_together : (m all : ℕ) → Together (pair_verdict hashes s at) m all i → i < m → Together (pair_verdict hashes s at) m (bit_or all d) (i + 1)
+  pair_together m all inv h = together_turn (pair_verdict hashes s at) m all i inv h d (λ none. sym (pair_apart (λ one. absurd (omega (arith, none, one)))))
 
-pub differ_less : (x y : Block) (d : ℕ) → d ≡ cond (equal_bytes x y) 0 1 → d ≤ 1
-differ_less x y d e = omega (arith, e, told_low (equal_bytes x y))
+  pub pair_passed : first_of (pair_verdict hashes s at) i ≡ fine → (d ≡ 1 → ⊥) → first_of (pair_verdict hashes s at) (i + 1) ≡ fine
+  pair_passed so_far n = first_next _ i so_far (sym (pair_apart n))
 
-pub ruleset pair_cases = (pair_apart, pair_equal)
+  pub pair_stops : (m : ℕ) → first_of (pair_verdict hashes s at) i ≡ fine → i < m → d ≡ 1 → refused 30 (i + 1) ≡ first_of (pair_verdict hashes s at) m
+  pair_stops m so_far more one = sym (first_found _ i m _ _ so_far more (sym (pair_equal one)))
+
+pub ruleset pair_cases = (search_start, pair_passed, pair_stops, together_start, pair_together, together_end)
 
 -- ---- find_clash
 module _ (s : List ℕ) (want : Wanted) (z : Sizes) (bounded : Bounded z) (room : length_for z want ≤ length s) (t : Bool) (is_t : t ≡ wants_hashes want) where
@@ -156,11 +172,11 @@ module _ (c seed : List ℕ) (want : Wanted) (s : Sizes) (m z o : List ℕ) (sta
         let n = length-replicate {A = ℕ} k 0 in
         rw l (f ∙ ap (over (replicate k 0)) e ∙ over_over (replicate k 0) b p (omega (arith, l, n)) (omega (arith, n, h)))
 
-    module _ (l : ℕ) (is_l : l ≡ length_for s want) (t : Ran) (is_t : ran_of t ≡ found_verdict m1 want s) where
+    module _ (l : ℕ) (is_l : l ≡ length_for s want) (t : Result Unit Refusal) (is_t : ran_of t ≡ found_verdict m1 want s) where
       verdict_is : ran_of t ≡ clash_verdict γ
       verdict_is = is_t ∙ ap (λ (x : List ℕ). found_verdict x want s) done.material_left ∙ found_is
 
-      pub outcome_wiped : (f : Refusal) → t ≡ Ran.Refused f → (m2 z2 o2 : List ℕ) → WipedTo s l m1 z1 o1 m2 z2 o2
+      pub outcome_wiped : (f : Refusal) → t ≡ Err f → (m2 z2 o2 : List ℕ) → WipedTo s l m1 z1 o1 m2 z2 o2
           → OutcomeIs c seed want m z o (no (verdict_of f)) m2 z2 o2
       outcome_wiped f e m2 z2 o2 zeros =
           let v = ran_refused t (clash_verdict γ) verdict_is f e in
@@ -176,7 +192,7 @@ module _ (c seed : List ℕ) (want : Wanted) (s : Sizes) (m z o : List ℕ) (sta
                 (zeroed (join_blocks (input_ones γ)) o o1 o2 (16 * s.n) (ones_long ∙ rw (Sized.is_n c s start.sized)) (rw (Sized.is_n c s start.sized) start.inputs_room) done.ones_left zeros.ones_left);
           }
 
-      pub outcome_done : t ≡ Ran.Done → OutcomeIs c seed want m z o (yes (made l calls)) m1 z1 o1
+      pub outcome_done : t ≡ Ok tt → OutcomeIs c seed want m z o (yes (made l calls)) m1 z1 o1
       unfolding garble_made
       outcome_done e =
           let v = ran_done t (clash_verdict γ) verdict_is e in

@@ -1,18 +1,17 @@
 -- Encode: its refusals, what they tell where none holds, and the buffer that it leaves. Assumes nothing.
+use Rattle.std.specs.Prelude.{Result, Ok, Err}
 use Prim.Native.Nat.{ℕ}
 use mathlib.Core.Path.{◌≡◌, sym, ◌∙◌}
 use mathlib.Core.List.{List}
 use lib.ListN.{length}
 use Rattle.model.specs.declared.Sizes.{Sizes}
 use Rattle.model.specs.declared.Refusal.{Refusal}
-use Rattle.model.specs.declared.Checked.{Checked}
-use Rattle.model.specs.declared.Ran.{Ran}
 use Rattle.model.specs.Bytes.{over}
 use Rattle.model.specs.Circuit.{inputs, circuit_of}
 use Rattle.model.specs.Material.{join_blocks}
 use Rattle.model.specs.Evaluation.{cut, encode, encode_bytes}
 use Rattle.model.specs.Refusals.{fine, refused, ◌then◌, verdict_of, circuit_verdict}
-use Rattle.model.specs.Operations.{sizes_of, checked_of, check_answer, ran_of, encode_verdict, EncodeIs}
+use Rattle.model.specs.Operations.{sizes_of, check_answer, ran_of, encode_verdict, EncodeIs, answer_of}
 use Rattle.model.proofs.Verdicts.{then_fine, then_refused, then_assoc, ran_refused, ran_done}
 use Rattle.model.proofs.Conditions.{values_fine, tokens_fine, room_fine}
 use Rattle.circuit.specs.Accepted.{Accepted}
@@ -47,22 +46,22 @@ module _ (c v zs os o : List ℕ) where
   refused_is i x e = record { answered = e; left = rw (← e) }
 
   -- check's answer r
-  module _ (r : Checked) (is_r : checked_of r ≡ check_answer c) where
-    pub encode_circuit : (f : Refusal) → r ≡ Checked.Refused f → EncodeIs c v zs os o (verdict_of f) o
+  module _ (r : Result Sizes Refusal) (is_r : answer_of r ≡ check_answer c) where
+    pub encode_circuit : (f : Refusal) → r ≡ Err f → EncodeIs c v zs os o (verdict_of f) o
     encode_circuit f e = refused_is _ _ (rw encode_verdict_law (then_refused _ _ _ _ (check_refused c r is_r f e)))
 
     -- and that of what it left to try
-    module _ (z : Sizes) (e : r ≡ Checked.Accepted z) (t : Ran) (is_t : ran_of t ≡ encode_arguments z v zs os (length o)) where
+    module _ (z : Sizes) (e : r ≡ Ok z) (t : Result Unit Refusal) (is_t : ran_of t ≡ encode_arguments z v zs os (length o)) where
       known : Accepted c z
       known = check_accepted c r is_r z e
 
       tried : ran_of t ≡ encode_verdict c v zs os (length o)
       tried = is_t ∙ left_to_try c z known (λ x. encode_arguments x v zs os (length o)) ∙ sym (encode_verdict_law c v zs os (length o))
 
-      pub encode_turned : (f : Refusal) → t ≡ Ran.Refused f → EncodeIs c v zs os o (verdict_of f) o
+      pub encode_turned : (f : Refusal) → t ≡ Err f → EncodeIs c v zs os o (verdict_of f) o
       encode_turned f g = refused_is _ _ (ran_refused t _ tried f g)
 
-      module _ (g : t ≡ Ran.Done) where
+      module _ (g : t ≡ Ok tt) where
         is_fine : encode_verdict c v zs os (length o) ≡ fine
         is_fine = sym (ran_done t _ tried g)
 

@@ -23,14 +23,14 @@ part_wide i z h = length-take-le 16 (drop (16 * i) z) (omega (arith, length-drop
 both_ways : (x y : Block) → length y ≡ 16 → x ⊕ x ⊕ y ≡ y
 both_ways x y h = sym (⊕_assoc x x y) ∙ rw (⊕_self x, ⊕_comm (block 0) y) (⊕_zero y h)
 
-pub token_chosen : (v : ℕ) (z o : List ℕ) (i : ℕ) (x y d e r : Block) → TokenRoom v z o i → x ≡ take 16 (drop (16 * i) z) → y ≡ take 16 (drop (16 * i) o)
+pub token_chosen : (v : ℕ) (z o : List ℕ) (i : ℕ) (x y d e r : Block) → v ≤ 1 → TokenRoom z o i → x ≡ take 16 (drop (16 * i) z) → y ≡ take 16 (drop (16 * i) o)
     → d ≡ x ⊕ y → e ≡ times v d → r ≡ x ⊕ e → r ≡ input_token v z o i
 unfolding input_token times
-token_chosen zero z o i x y d e r room is_x is_y is_d is_e is_r =
+token_chosen zero z o i x y d e r bit room is_x is_y is_d is_e is_r =
     is_r ∙ rw (is_e, is_x) (⊕_zero (take 16 (drop (16 * i) z)) (part_wide i z room.zeros))
-token_chosen (suc zero) z o i x y d e r room is_x is_y is_d is_e is_r =
+token_chosen (suc zero) z o i x y d e r bit room is_x is_y is_d is_e is_r =
     is_r ∙ rw (is_e, is_d, is_x, is_y) (both_ways (take 16 (drop (16 * i) z)) (take 16 (drop (16 * i) o)) (part_wide i o room.ones))
-token_chosen (suc (suc v)) z o i x y d e r room is_x is_y is_d is_e is_r = absurd (omega (arith, room.bit))
+token_chosen (suc (suc v)) z o i x y d e r bit room is_x is_y is_d is_e is_r = absurd (omega (arith, bit))
 
 -- ---- encode as a table
 
@@ -90,8 +90,11 @@ module _ (n : ℕ) (v z o t : List ℕ) (start : EncodeStart n v z o t) where
       pub encode_value : i < length v
       encode_value = omega (arith, start.values)
 
-      pub encode_token : TokenRoom (get_or v i 0) z o i
-      encode_token = record { bit = start.bits i; zeros = omega (arith, start.zeros); ones = omega (arith, start.ones) }
+      pub encode_bit : get_or v i 0 ≤ 1
+      encode_bit = start.bits i
+
+      pub encode_token : TokenRoom z o i
+      encode_token = record { zeros = omega (arith, start.zeros); ones = omega (arith, start.ones) }
 
       pub encode_room : 16 * i + 16 ≤ length d
       encode_room = omega (arith, start.room, inv.tokens.same_length)
@@ -103,4 +106,4 @@ module _ (n : ℕ) (v z o t : List ℕ) (start : EncodeStart n v z o t) where
         tokens = fill_turn wide inv.tokens h start.room x d' (e ∙ rw (cut_at n i z h, cut_at n i o h)) f;
       }
 
-pub ruleset encode_turns = (encode_start, encode_end, encode_value, encode_token, encode_room, encode_turn)
+pub ruleset encode_turns = (encode_start, encode_end, encode_value, encode_bit, encode_token, encode_room, encode_turn)

@@ -1,18 +1,18 @@
 -- Garble: its refusals, what they tell where none holds, and what it answers and leaves. Assumes nothing.
+use Rattle.std.specs.Prelude.{Result, Ok, Err}
 use Prim.Native.Nat.{ℕ, ◌≤◌}
 use mathlib.Core.Path.{◌≡◌, refl, sym, ◌∙◌}
 use mathlib.Core.Bool.{Bool}
 use mathlib.Core.List.{List}
 use lib.ListN.{length}
 use Rattle.model.specs.declared.Sizes.{Sizes}
+use Rattle.model.specs.declared.Garbled.{Garbled}
 use Rattle.model.specs.declared.Wanted.{Wanted}
 use Rattle.model.specs.declared.Refusal.{Refusal}
-use Rattle.model.specs.declared.Checked.{Checked}
-use Rattle.model.specs.declared.Ran.{Ran}
 use Rattle.model.specs.Tokens.{wants_hashes}
 use Rattle.model.specs.Material.{last_bytes, material_length}
 use Rattle.model.specs.Refusals.{Verdict, fine, refused, ◌then◌, verdict_of, circuit_verdict, room_verdict}
-use Rattle.model.specs.Operations.{Answer, no, sizes_of, checked_of, check_answer, ran_of, file_length, garble_verdict, Made, GarbleIs}
+use Rattle.model.specs.Operations.{Answer, no, sizes_of, check_answer, ran_of, file_length, garble_verdict, GarbleIs, answer_of}
 use Rattle.model.proofs.Verdicts.{then_fine, then_refused, then_assoc, ran_refused, ran_done}
 use Rattle.model.proofs.Conditions.{seed_fine, scheme_fine, room_fine}
 use Rattle.circuit.specs.Accepted.{Accepted}
@@ -56,12 +56,12 @@ module _ (c seed : List ℕ) (want : Wanted) (m z o : List ℕ) where
   refused_is i x e = record { answered = rw (← e); material_left = rw (← e); zeros_left = rw (← e); ones_left = rw (← e) }
 
   -- check's answer r
-  module _ (r : Checked) (is_r : checked_of r ≡ check_answer c) where
-    pub garble_circuit : (f : Refusal) → r ≡ Checked.Refused f → GarbleIs c seed want m z o (no (verdict_of f)) m z o
+  module _ (r : Result Sizes Refusal) (is_r : answer_of r ≡ check_answer c) where
+    pub garble_circuit : (f : Refusal) → r ≡ Err f → GarbleIs c seed want m z o (no (verdict_of f)) m z o
     garble_circuit f e = refused_is _ _ (rw garble_verdict_law (then_refused _ _ _ _ (check_refused c r is_r f e)))
 
     -- and that of what it left to try
-    module _ (s : Sizes) (e : r ≡ Checked.Accepted s) (t : Ran) (is_t : ran_of t ≡ garble_arguments s seed want (length m) (length z) (length o)) where
+    module _ (s : Sizes) (e : r ≡ Ok s) (t : Result Unit Refusal) (is_t : ran_of t ≡ garble_arguments s seed want (length m) (length z) (length o)) where
       known : Accepted c s
       known = check_accepted c r is_r s e
 
@@ -70,17 +70,17 @@ module _ (c seed : List ℕ) (want : Wanted) (m z o : List ℕ) where
           is_t ∙ left_to_try c s known (λ x. garble_arguments x seed want (length m) (length z) (length o))
           ∙ sym (garble_verdict_law c seed want (length m) (length z) (length o))
 
-      pub garble_turned : (f : Refusal) → t ≡ Ran.Refused f → GarbleIs c seed want m z o (no (verdict_of f)) m z o
+      pub garble_turned : (f : Refusal) → t ≡ Err f → GarbleIs c seed want m z o (no (verdict_of f)) m z o
       garble_turned f g = refused_is _ _ (ran_refused t _ tried f g)
 
-      module _ (g : t ≡ Ran.Done) where
+      module _ (g : t ≡ Ok tt) where
         is_fine : garble_verdict c seed want (length m) (length z) (length o) ≡ fine
         is_fine = sym (ran_done t _ tried g)
 
         pub garble_go : WholeStart c seed want s m z o
         garble_go = rw known.sizes (garble_fine c seed want m z o is_fine)
 
-        pub garble_done : (r : Answer Made) (m' z' o' : List ℕ) → OutcomeIs c seed want m z o r m' z' o' → GarbleIs c seed want m z o r m' z' o'
+        pub garble_done : (r : Answer Garbled) (m' z' o' : List ℕ) → OutcomeIs c seed want m z o r m' z' o' → GarbleIs c seed want m z o r m' z' o'
         unfolding ◌then◌
         garble_done r m' z' o' done = record {
           answered = rw is_fine done.answered;

@@ -12,14 +12,13 @@ use Rattle.model.proofs.Xor.{⊕_length}
 use Rattle.model.proofs.Filling.{Filling, fill_start, fill_turn, fill_end}
 use Rattle.garble.specs.Held.{HeldIs, TakenIs}
 use Rattle.garble.specs.declared.seed.Held.{Held}
-use Rattle.garble.specs.declared.seed.Taken.{Taken}
 use Rattle.garble.specs.Written.{InputsRoom, input_zero, InputsIs}
 use Rattle.garble.specs.declared.plan.Plan.{Plan}
 
 -- what is held, and both lists: z and o at the start, z' and o' after i inputs
 pub record Inputs (p : Plan) (z o : List ℕ) (h : Held) (i : ℕ) (z' o' : List ℕ) : Type 0 where
   pub within : i ≤ p.n
-  pub held_is : HeldIs p.seed.bytes p.wanted.run h
+  pub held_is : HeldIs p.seed.key.bytes p.wanted.run h
   pub zeros : Filling (input_zero p) p.n z i z'
   pub ones : Filling (λ k. input_zero p k ⊕ p.r.bytes) p.n o i o'
 
@@ -28,7 +27,7 @@ unfolding input_zero aes cipher add_round_key
 zero_wide p k = ⊕_length _ _
 
 module _ (p : Plan) (z o : List ℕ) where
-  pub inputs_start : (h : Held) → HeldIs p.seed.bytes p.wanted.run h → Inputs p z o h 0 z o
+  pub inputs_start : (h : Held) → HeldIs p.seed.key.bytes p.wanted.run h → Inputs p z o h 0 z o
   inputs_start h is_h = record {
     within = omega arith;
     held_is = is_h;
@@ -47,14 +46,14 @@ module _ (p : Plan) (z o : List ℕ) where
     pub wire_fits : i < p.n → length z' < 2 ^ 64 → (x : ℕ) → x ≤ 3 → Fits w64 (i + 1 + x)
     wire_fits l long x few = omega (arith, inv.zeros.same_length, room.zeros)
 
-    pub inputs_turn : i < p.n → (r : Taken) → TakenIs p.seed.bytes p.wanted.run (i + 1) r → (y z'' o'' : List ℕ) → z'' ≡ put z' (16 * i) r.block.bytes → y ≡ r.block.bytes ⊕ p.r.bytes → o'' ≡ put o' (16 * i) y
-        → Inputs p z o r.held (i + 1) z'' o''
+    pub inputs_turn : i < p.n → (h' : Held) (x : Block) → TakenIs p.seed.key.bytes p.wanted.run (i + 1) h' x → (y z'' o'' : List ℕ) → z'' ≡ put z' (16 * i) x → y ≡ x ⊕ p.r.bytes
+        → o'' ≡ put o' (16 * i) y → Inputs p z o h' (i + 1) z'' o''
     unfolding input_zero
-    inputs_turn l r is_r y z'' o'' is_z is_y is_o = record {
+    inputs_turn l h' x is_x y z'' o'' is_z is_y is_o = record {
       within = omega arith;
-      held_is = is_r.held_is;
-      zeros = fill_turn (zero_wide p) inv.zeros l room.zeros r.block.bytes z'' is_r.block_is is_z;
-      ones = fill_turn (λ k. ⊕_length _ _) inv.ones l room.ones y o'' (is_y ∙ ap (λ (b : Block). b ⊕ p.r.bytes) is_r.block_is) is_o;
+      held_is = is_x.held_is;
+      zeros = fill_turn (zero_wide p) inv.zeros l room.zeros x z'' is_x.block_is is_z;
+      ones = fill_turn (λ k. ⊕_length _ _) inv.ones l room.ones y o'' (is_y ∙ ap (λ (b : Block). b ⊕ p.r.bytes) is_x.block_is) is_o;
     }
 
     pub inputs_end : p.n ≤ i → InputsIs p z o z' o'

@@ -1,5 +1,5 @@
 -- The last record: the loops that write its colours and its hashes, and the record whole. Assumes nothing.
-use Prim.Native.Nat.{ℕ, suc, ◌+◌, ◌*◌, ◌-◌, ◌≤◌, ◌<◌}
+use Prim.Native.Nat.{ℕ, suc, ◌+◌, ◌*◌, ◌≤◌, ◌<◌}
 use native.Mathlib.Nat.{mul-le-mul}
 use native.Mathlib.Numerals.{add-one}
 use native.Mathlib.Omega.{arith}
@@ -64,8 +64,8 @@ module _ (c : List ℕ) (s : Sizes) (z o : List ℕ) (at : ℕ) (start : Colours
       pub colours_wire : 1 ≤ w
       colours_wire = rw is_w among.low
 
-      pub colours_token : 16 * (w - 1) + 16 ≤ length z
-      colours_token = omega (arith, is_w, among.low, among.high, start.tokens)
+      pub colours_token : 16 * w ≤ length z
+      colours_token = omega (arith, is_w, among.high, start.tokens)
 
   module _ (i : ℕ) (d : List ℕ) (inv : Writing c z at o i d) where
     pub colours_end : s.m ≤ i → d ≡ put o at (map (λ w. colour (token_at z w)) (circuit_of c).outputs)
@@ -77,9 +77,8 @@ module _ (c : List ℕ) (s : Sizes) (z o : List ℕ) (at : ℕ) (start : Colours
       pub colours_slot : at + i < length d
       colours_slot = omega (arith, inv.same_length, start.room)
 
-      pub colours_turn : (w : ℕ) → w ≡ get_or (circuit_of c).outputs i 0 → (x : List ℕ) (v : ℕ) → x ≡ take 16 (drop (16 * (w - 1)) z) → v ≡ colour x
+      pub colours_turn : (w : ℕ) → w ≡ get_or (circuit_of c).outputs i 0 → (x : List ℕ) (v : ℕ) → x ≡ token_at z w → v ≡ colour x
           → Writing c z at o (i + 1) (set d (at + i) v)
-      unfolding token_at
       colours_turn w is_w x v e f = record {
         within = omega (arith, is_m);
         same_length = simp length-set inv.same_length;
@@ -164,8 +163,8 @@ module _ (c : List ℕ) (s : Sizes) (z o : List ℕ) (at : ℕ) (start : HashesS
       pub hashes_wire : 1 ≤ w
       hashes_wire = rw is_w output_among.low
 
-      pub hashes_token : 16 * (w - 1) + 16 ≤ length z
-      hashes_token = omega (arith, is_w, output_among.low, output_among.high, start.tokens)
+      pub hashes_token : 16 * w ≤ length z
+      hashes_token = omega (arith, is_w, output_among.high, start.tokens)
 
   module _ (R : Block) (i : ℕ) (d : List ℕ) (inv : Hashing c z R at o i d) where
     pub hashes_end : s.m ≤ i → d ≡ put o at (stored_from hashes z R 1 (circuit_of c).outputs)
@@ -177,9 +176,8 @@ module _ (c : List ℕ) (s : Sizes) (z o : List ℕ) (at : ℕ) (start : HashesS
       pub hashes_slot : at + 32 * i + 32 ≤ length d
       hashes_slot = omega (arith, inv.same_length, start.room)
 
-      pub hashes_turn : (w : ℕ) → w ≡ get_or (circuit_of c).outputs i 0 → (x : Block) → x ≡ take 16 (drop (16 * (w - 1)) z)
+      pub hashes_turn : (w : ℕ) → w ≡ get_or (circuit_of c).outputs i 0 → (x : Block) → x ≡ token_at z w
           → (d1 : List ℕ) → d1 ≡ put d (at + 32 * i) (pair_of x R (i + 1)) → Hashing c z R at o (i + 1) d1
-      unfolding token_at
       hashes_turn w is_w x is_x d1 e =
           let pair : List ℕ = pair_of x R (i + 1) in
           let wide : length pair ≡ 32 = pair_long x R (i + 1) in

@@ -1,9 +1,9 @@
 -- A gate's operands: what their reads ask, and what was read. Assumes nothing.
-use Prim.Native.Nat.{ℕ, ◌+◌, ◌*◌, ◌-◌, ◌≤◌, ◌<◌}
+use Prim.Native.Nat.{ℕ, ◌+◌, ◌*◌, ◌≤◌, ◌<◌}
 use native.Mathlib.Omega.{arith}
 use mathlib.Core.Path.{◌≡◌, ap, ◌∙◌}
 use mathlib.Core.List.{List}
-use lib.ListN.{length, take, drop}
+use lib.ListN.{length}
 use Rattle.model.specs.declared.Gate.{Gate}
 use Rattle.model.specs.Circuit.{inputs, gate_at, gate_wire}
 use Rattle.model.specs.Evaluation.{token_at}
@@ -40,15 +40,13 @@ module _ (c : List ℕ) (n k : ℕ) (z : List ℕ) (start : OperandsStart c n k 
     pub low_b : 1 ≤ g.b.0
     low_b = omega (arith, order)
 
-    pub load_a : 16 * (g.a.0 - 1) + 16 ≤ length z
-    load_a = omega (arith, low_a, order, high_b, start.more, start.room)
+    pub high_a : 16 * g.a.0 ≤ length z
+    high_a = omega (arith, order, high_b, start.more, start.room)
 
-    pub load_b : 16 * (g.b.0 - 1) + 16 ≤ length z
-    load_b = omega (arith, order, high_b, start.more, start.room)
+    pub top_b : 16 * g.b.0 ≤ length z
+    top_b = omega (arith, high_b, start.more, start.room)
 
-    pub operands_read : (r : GateIn) → r.code ≡ g.code → r.own.0 ≡ n + k + 1 → r.xa.bytes ≡ take 16 (drop (16 * (g.a.0 - 1)) z) → r.xb.bytes ≡ take 16 (drop (16 * (g.b.0 - 1)) z)
-        → GateInIs c n k z r
-    unfolding token_at
+    pub operands_read : (r : GateIn) → r.code ≡ g.code → r.own.0 ≡ n + k + 1 → r.xa.bytes ≡ token_at z g.a.0 → r.xb.bytes ≡ token_at z g.b.0 → GateInIs c n k z r
     operands_read r e f h i = record {
       is_code = e ∙ ap (λ (x : Gate). x.code) is_g;
       is_own = f;
@@ -56,4 +54,4 @@ module _ (c : List ℕ) (n k : ℕ) (z : List ℕ) (start : OperandsStart c n k 
       is_xb = i ∙ rw is_g;
     }
 
-pub ruleset operand_needs = (gate_room, gate_small, low_a, low_b, load_a, load_b)
+pub ruleset operand_needs = (gate_room, gate_small, own_small, low_a, low_b, high_a, top_b, operands_read)

@@ -1,67 +1,60 @@
--- A record written piece by piece: its head, then its rows. Assumes nothing.
-use Prim.Native.Nat.{ℕ, ◌+◌, ◌≤◌}
+-- A record as it is written: its head, then its rows one by one. Assumes nothing.
+use Prim.Native.Nat.{ℕ, ◌+◌, ◌*◌, ◌≤◌, ◌<◌}
+use native.Mathlib.Numerals.{add-one}
 use native.Mathlib.Omega.{arith}
-use mathlib.Core.Path.{◌≡◌, ap, ◌∙◌}
-use mathlib.Core.List.{List, ◌∷◌, ◌++◌, append_assoc, append-nil}
-use lib.ListN.{length, length-append}
+use mathlib.Core.Path.{◌≡◌, refl, sym, ap, ◌∙◌}
+use mathlib.Core.List.{List, [], ◌∷◌, ◌++◌, map}
+use lib.ListN.{length, get_or, get_or-map, take, length-map, length-append}
+use lib.Seq.{take-suc, take-take}
+use Rattle.std.proofs.lemmas.List.{take-map}
+use Rattle.block.specs.declared.Block.{Block}
 use Rattle.model.specs.Bytes.{put, two}
 use Rattle.model.specs.Material.{join_blocks}
-use Rattle.model.proofs.Buffers.{put_put}
-use Rattle.garble.specs.Walk.{WriterRoom, written_record}
+use Rattle.model.proofs.Blocks.{join_snoc}
+use Rattle.model.proofs.Buffers.{put_none, put_length, put_put}
 use Rattle.scheme.specs.declared.GarbledGate.{GarbledGate}
+use Rattle.garble.specs.Walk.{WriterRoom, written_record}
 
--- b and then r after it, at j: the piece grows
-grown : (o : List ℕ) (at : ℕ) (b r m m' : List ℕ) (j : ℕ) → m ≡ put o at b → m' ≡ put m j r → j ≡ at + length b → at + length b + length r ≤ length o
-    → m' ≡ put o at (b ++ r)
-grown o at b r m m' j e f h l = f ∙ rw e (put_put o at b r j h l)
+-- the bytes of the first i rows
+abbrev pub first_rows : List Block → ℕ → List ℕ
+first_rows rows i = join_blocks (take i (map (λ b. b.bytes) rows))
 
-module _ (o : List ℕ) (at own : ℕ) (g : GarbledGate) where
-  -- two rows
-  module _ (room : WriterRoom at 2 o) (w0 : length g.row0.bytes ≡ 16) (w1 : length g.row1.bytes ≡ 16) where
-    module _ (m1 : List ℕ) (is_1 : m1 ≡ put o at (0x47 ∷ 0x54 ∷ two own)) where
-      module _ (m2 : List ℕ) (is_2 : m2 ≡ put m1 (at + 4) g.row0.bytes) where
-        head_row : m2 ≡ put o at (0x47 ∷ 0x54 ∷ two own ++ g.row0.bytes)
-        head_row = grown o at (0x47 ∷ 0x54 ∷ two own) g.row0.bytes m1 m2 (at + 4) is_1 is_2 (omega arith) (omega (arith, w0, room.room))
+-- i rows are written from `at` on: d was o
+pub record Recording (o : List ℕ) (at : ℕ) (rows : List Block) (i : ℕ) (d : List ℕ) : Type 0 where
+  pub same_length : length d ≡ length o
+  pub long : length (first_rows rows i) ≡ 16 * i
+  pub so_far : d ≡ put o at (first_rows rows i)
 
-        pub two_written : (m3 : List ℕ) → m3 ≡ put m2 (at + 20) g.row1.bytes → m3 ≡ put o at (written_record own 2 g)
-        unfolding written_record join_blocks
-        two_written m3 is_3 =
-            grown o at (0x47 ∷ 0x54 ∷ two own ++ g.row0.bytes) g.row1.bytes m2 m3 (at + 20) head_row is_3 (omega (arith, w0)) (omega (arith, w0, w1, room.room))
-            ∙ rw append-nil
+module _ (o : List ℕ) (at : ℕ) (rows : List Block) where
+  pub rows_start : Recording o at rows 0 o
+  unfolding join_blocks
+  rows_start = record { same_length = refl; long = refl; so_far = put_none o at }
 
-  record_2 : length g.row0.bytes ≡ 16 → length g.row1.bytes ≡ 16 → length (written_record own 2 g) ≡ 36
-  unfolding written_record join_blocks
-  record_2 w0 w1 = simp length-append (omega (arith, w0, w1))
+  pub rows_turn : (i stored : ℕ) (d : List ℕ) → Recording o at rows i d → i < stored → at + 16 * stored ≤ length o → i < length rows
+      → (x : Block) → x ≡ get_or rows i (record { bytes = [] }) → length x.bytes ≡ 16 → (d' : List ℕ) → d' ≡ put d (at + 16 * i) x.bytes → Recording o at rows (i + 1) d'
+  rows_turn i stored d inv more room there x is_x wide d' is_d =
+      let all : List (List ℕ) = map (λ b. b.bytes) rows in
+      let row : get_or all i [] ≡ x.bytes = get_or-map (λ (b : Block). b.bytes) rows i (record { bytes = [] }) ∙ rw is_x in
+      let grown : first_rows rows (i + 1) ≡ first_rows rows i ++ x.bytes =
+      ap join_blocks (ap (λ (k : ℕ). take k all) (add-one i) ∙ take-suc all i [] (omega (arith, length-map rows (λ (b : Block). b.bytes), there)))
+      ∙ join_snoc (take i all) (get_or all i []) ∙ ap (λ (b : List ℕ). first_rows rows i ++ b) row in
+      record {
+        same_length = ap length is_d ∙ put_length d (at + 16 * i) x.bytes (omega (arith, wide, inv.same_length, room)) ∙ inv.same_length;
+        long = ap length grown ∙ length-append (first_rows rows i) x.bytes ∙ omega (arith, inv.long, wide);
+        so_far =
+            is_d ∙ ap (λ (l : List ℕ). put l (at + 16 * i) x.bytes) inv.so_far
+            ∙ put_put o at (first_rows rows i) x.bytes (at + 16 * i) (omega (arith, inv.long)) (omega (arith, inv.long, wide, room))
+            ∙ ap (put o at) (sym grown);
+      }
 
-  -- a third
-  module _ (room : WriterRoom at 3 o) (w0 : length g.row0.bytes ≡ 16) (w1 : length g.row1.bytes ≡ 16) (w2 : length g.row2.bytes ≡ 16) where
-    module _ (m1 : List ℕ) (is_1 : m1 ≡ put o at (written_record own 2 g)) where
-      pub three_written : (m2 : List ℕ) → m2 ≡ put m1 (at + 36) g.row2.bytes → m2 ≡ put o at (written_record own 3 g)
-      three_written m2 is_2 =
-          grown o at (written_record own 2 g) g.row2.bytes m1 m2 (at + 36) is_1 is_2 (omega (arith, record_2 w0 w1)) (omega (arith, record_2 w0 w1, w2, room.room))
-          ∙ ap (put o at) (unfold written_record join_blocks in (rw (append-nil, append-nil, append_assoc g.row0.bytes g.row1.bytes g.row2.bytes)))
-
-  record_3 : length g.row0.bytes ≡ 16 → length g.row1.bytes ≡ 16 → length g.row2.bytes ≡ 16 → length (written_record own 3 g) ≡ 52
-  unfolding written_record join_blocks
-  record_3 w0 w1 w2 = simp length-append (omega (arith, w0, w1, w2))
-
-  -- a fourth
-  module _ (room : WriterRoom at 4 o) (w0 : length g.row0.bytes ≡ 16) (w1 : length g.row1.bytes ≡ 16) (w2 : length g.row2.bytes ≡ 16) (w3 : length g.row3.bytes ≡ 16) where
-    module _ (m1 : List ℕ) (is_1 : m1 ≡ put o at (written_record own 3 g)) where
-      pub four_written : (m2 : List ℕ) → m2 ≡ put m1 (at + 52) g.row3.bytes → m2 ≡ put o at (written_record own 4 g)
-      four_written m2 is_2 =
-          grown o at (written_record own 3 g) g.row3.bytes m1 m2 (at + 52) is_1 is_2 (omega (arith, record_3 w0 w1 w2)) (omega (arith, record_3 w0 w1 w2, w3, room.room))
-          ∙ ap (put o at) (unfold written_record join_blocks in (rw (append-nil, append-nil, append_assoc g.row0.bytes (g.row1.bytes ++ g.row2.bytes) g.row3.bytes, append_assoc g.row1.bytes g.row2.bytes g.row3.bytes)))
-
-  -- ---- by the number of rows
-  module _ (stored : ℕ) (room : WriterRoom at stored o) (m : List ℕ) where
-    pub is_two : stored ≡ 2 → m ≡ put o at (written_record own 2 g) → m ≡ put o at (written_record own stored g)
-    is_two e f = rw e f
-
-    pub is_three : stored ≡ 3 → m ≡ put o at (written_record own 3 g) → m ≡ put o at (written_record own stored g)
-    is_three e f = rw e f
-
-    pub is_four : (stored ≡ 2 → ⊥) → (stored ≡ 3 → ⊥) → m ≡ put o at (written_record own 4 g) → m ≡ put o at (written_record own stored g)
-    is_four h l f = let e : stored ≡ 4 = omega (arith, room.low, room.high) in rw e f
-
-pub ruleset record_cases = (is_two, is_three, is_four)
+-- the head, and all rows after it
+pub rows_end : (o m : List ℕ) (at own stored : ℕ) (g : GarbledGate) → WriterRoom at stored o → m ≡ put o at (0x47 ∷ 0x54 ∷ two own)
+    → (i : ℕ) (d : List ℕ) → Recording m (at + 4) (take stored g.rows) i d → i ≡ stored → d ≡ put o at (written_record own stored g)
+unfolding written_record
+rows_end o m at own stored g room is_m i d inv e =
+    let rows : List ℕ = join_blocks (take stored (map (λ b. b.bytes) g.rows)) in
+    let all : first_rows (take stored g.rows) stored ≡ rows =
+    ap join_blocks (take-map (λ (b : Block). b.bytes) stored (take stored g.rows) ∙ ap (map (λ (b : Block). b.bytes)) (take-take stored stored g.rows (omega arith)) ∙ sym (take-map (λ (b : Block). b.bytes) stored g.rows)) in
+    let long : length rows ≡ 16 * stored = rw (e, all) at inv.long in
+    rw (e, all) at inv.so_far ∙ ap (λ (l : List ℕ). put l (at + 4) rows) is_m
+    ∙ put_put o at (0x47 ∷ 0x54 ∷ two own) rows (at + 4) (omega arith) (omega (arith, long, room.room))

@@ -7,11 +7,12 @@ use mathlib.Core.List.{List}
 use lib.ListN.{length, drop, take-append-drop}
 use mir.Syntax.{w64}
 use mir.Val.{Fits}
-use Rattle.model.specs.declared.Truth.{Truth}
+use Rattle.model.specs.declared.AndGate.{AndGate}
+use Rattle.model.specs.declared.XorGate.{XorGate}
 use Rattle.model.specs.declared.Wanted.{Wanted}
 use Rattle.model.specs.declared.Kind as Kinds
 use Rattle.model.specs.Bytes.{tabulate, put}
-use Rattle.model.specs.Circuit.{value, Kind, charged, free, refused, kind_of, charges, circuit_of, inputs, outputs, gates, gate_at, gate_wire, wire}
+use Rattle.model.specs.Circuit.{Kind, charged, free, refused, kind_of, charges, circuit_of, inputs, outputs, gates, gate_at, gate_wire, wire}
 use Rattle.model.specs.Aes.{Block, block}
 use Rattle.model.specs.Tokens.{garbling_of, seed_block, offset, free_zero}
 use Rattle.model.specs.Scheme.{record_length}
@@ -23,8 +24,7 @@ use Rattle.model.proofs.Lists.{tabulate_length}
 use Rattle.model.proofs.Circuits.{charges_le}
 use Rattle.model.proofs.Places.{length_last, last_high, record_fits, record_high}
 use Rattle.model.proofs.Buffers.{put_none}
-use Rattle.model.proofs.Codes.{Used, used_charged, used_free, FreeTable, code_means}
-use Rattle.model.proofs.Bits.{bit_small}
+use Rattle.model.proofs.Codes.{Used, used_charged, used_free}
 use Rattle.model.proofs.Blocks.{Blocks, blocks_length, join_at}
 use Rattle.model.proofs.Lengths.{input_zeros_blocks, zeros_blocks}
 use Rattle.model.proofs.Accepted.{GateHolds, accepted_header, accepted_gate}
@@ -97,8 +97,8 @@ module _ (c seed : List ℕ) (want : Wanted) (plan : Plan) (walk : WalkOf c seed
         code_kind = sym (is_kind ∙ ap kind_of is_g.is_code)
 
         -- ---- a charged gate
-        module _ (u v x : Truth) (e : kind ≡ Kinds.Kind.Charged u v x) where
-          pub charged_is : kind_of (gate_at c k).code ≡ charged u.0 v.0 x.0
+        module _ (x : AndGate) (e : kind ≡ Kinds.Kind.Charged x) where
+          pub charged_is : kind_of (gate_at c k).code ≡ charged x.u.bit x.v.bit x.own.bit
           charged_is = code_kind ∙ ap meaning e
 
           room : at + record_length (scheme_of want.scheme) ≤ length m
@@ -107,7 +107,7 @@ module _ (c seed : List ℕ) (want : Wanted) (plan : Plan) (walk : WalkOf c seed
               let fits = rw charged_is at (record_fits want.scheme (gate_at c) k (gates c) start.more) in
               omega (arith, fits, start.is_at, start.file_room, length_last want.scheme (outputs c) (charges (tabulate (gates c) (gate_at c))))
 
-          pub step_charged_start : ChargedStart want.scheme plan.stored g.code u.0 v.0 x.0 m at z (16 * (plan.n + k))
+          pub step_charged_start : ChargedStart want.scheme plan.stored g.code x.u.bit x.v.bit x.own.bit m at z (16 * (plan.n + k))
           step_charged_start = record {
             known = walk.known;
             is_stored = walk.plan_is.is_stored;
@@ -127,18 +127,13 @@ module _ (c seed : List ℕ) (want : Wanted) (plan : Plan) (walk : WalkOf c seed
           }
 
         -- ---- a free gate
-        module _ (p q d : Truth) (e : kind ≡ Kinds.Kind.Free p q d) where
-          free_is : kind_of (gate_at c k).code ≡ free p.0 q.0 d.0
+        module _ (x : XorGate) (e : kind ≡ Kinds.Kind.Free x) where
+          free_is : kind_of (gate_at c k).code ≡ free x.p.bit x.q.bit x.c.bit
           free_is = code_kind ∙ ap meaning e
 
-          pub step_bits : (p.0 ≤ 1) × (q.0 ≤ 1) × (d.0 ≤ 1)
-          step_bits =
-              let t : FreeTable (value (gate_at c k).code) p.0 q.0 d.0 = rw free_is at (code_means (gate_at c k).code) in
-              (bit_small t.bit_p, bit_small t.bit_q, bit_small t.bit_c)
-
-          pub step_free : (x z' : List ℕ) → x ≡ free_zero p.0 q.0 d.0 plan.r.bytes g.xa.bytes g.xb.bytes → z' ≡ put z (16 * (plan.n + k)) x → StepIs c seed want k at m z at 0 m z'
-          step_free x z' is_x is_z = record {
-            zeros_left = is_z ∙ rw (walk.plan_is.is_n, is_x) (unfold zero_step zero_at site_of in (rw (free_is, offset_is, xa_is, xb_is)));
+          pub step_free : (y z' : List ℕ) → y ≡ free_zero x.p.bit x.q.bit x.c.bit plan.r.bytes g.xa.bytes g.xb.bytes → z' ≡ put z (16 * (plan.n + k)) y → StepIs c seed want k at m z at 0 m z'
+          step_free y z' is_y is_z = record {
+            zeros_left = is_z ∙ rw (walk.plan_is.is_n, is_y) (unfold zero_step zero_at site_of in (rw (free_is, offset_is, xa_is, xb_is)));
             material_left = put_none m at ∙ unfold record_of in (rw free_is);
             is_next = rw (free_is, zero-mul) (sym (add-zero at));
             calls_made = unfold garble_calls_at in (rw free_is);
@@ -148,4 +143,4 @@ module _ (c seed : List ℕ) (want : Wanted) (plan : Plan) (walk : WalkOf c seed
         pub step_refused : kind ≡ Kinds.Kind.Refused → StepIs c seed want k at m z at 0 m z
         step_refused e = absurd (not_refused _ holds.used (code_kind ∙ ap meaning e))
 
-pub ruleset step_cases = (step_operands, step_next, step_charged_start, step_fresh, step_charged, step_bits, step_slot, step_free, step_refused)
+pub ruleset step_cases = (step_operands, step_next, step_charged_start, step_fresh, step_charged, step_slot, step_free, step_refused)

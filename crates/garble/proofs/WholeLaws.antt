@@ -8,24 +8,21 @@ use lib.ListN.{length, take, drop}
 use lib.Seq.{take_all, take_at}
 use Rattle.model.specs.declared.Sizes.{Sizes}
 use Rattle.model.specs.declared.Wanted.{Wanted}
-use Rattle.model.specs.Bytes.{over, two}
+use Rattle.model.specs.Bytes.{tabulate, over, two}
 use Rattle.model.specs.Circuit.{charges, circuit_of, inputs, outputs, gates}
-use Rattle.model.specs.Aes.{Block, IsExpansion}
-use Rattle.model.specs.Tokens.{wants_hashes, garbling_of, seed_block, offset, input_zeros, one_token}
+use Rattle.model.specs.Aes.{Block, ◌⊕◌, aes}
+use Rattle.model.specs.Tokens.{wants_hashes, garbling_of, run_block, seed_block, offset, input_zeros, one_token}
 use Rattle.model.specs.Garbling.{zero_tokens, input_ones}
 use Rattle.model.specs.Ending.{colours, hashes, ending_of}
 use Rattle.model.specs.Material.{join_blocks, last_bytes, material_length, header, material}
 use Rattle.model.specs.Operations.{file_length}
 use Rattle.model.proofs.Lists.{tabulate_length, tabulate_map}
-use Rattle.model.proofs.Expansion.{expansion_only}
 use Rattle.model.proofs.Buffers.{over_length, over_over}
 use Rattle.model.proofs.Outputs.{outputs_many}
 use Rattle.model.proofs.Blocks.{join_length}
 use Rattle.model.proofs.Lengths.{input_zeros_blocks, header_length, material_length_law}
 use Rattle.circuit.proofs.AcceptedLaws as Sized
 use Rattle.garble.specs.declared.plan.Plan.{Plan}
-use Rattle.planes.specs.Sliced.{IsSliced}
-use Rattle.garble.specs.Held.{SeedPlanes}
 use Rattle.garble.specs.Written.{input_zero, InputsIs}
 use Rattle.garble.specs.Walk.{PlanIs, WalkOf, FrontStart, FrontIs, BodyStart, BodyIs}
 use Rattle.garble.specs.Whole.{WholeStart, WholeIs}
@@ -67,22 +64,16 @@ module _ (c seed : List ℕ) (want : Wanted) (s : Sizes) (m z o : List ℕ) (sta
   own_front : (k : Block) → k ≡ take 16 (drop 0 seed) → k ≡ seed
   own_front k is_k = is_k ∙ take_all 16 seed (omega (arith, start.seed_length))
 
-  pub whole_planes : (k : Block) → k ≡ take 16 (drop 0 seed) → (w ks : List ℕ) → IsExpansion k w → IsSliced (λ b. w) ks → SeedPlanes k ks
-  whole_planes k is_k w ks expanded sliced = rw (expansion_only (ap length (own_front k is_k) ∙ start.seed_length) expanded) at sliced
-
   -- the seed as a block, and the plan, as they were made
   module _ (k : List ℕ) (plan : Plan) (is_k : k ≡ take 16 (drop 0 seed)) (is_plan : PlanIs k want s.n plan) where
     is_seed : k ≡ seed
     is_seed = own_front k is_k
 
-    pub whole_seed : (ks : List ℕ) → SeedPlanes k ks → SeedPlanes plan.seed.bytes ks
-    whole_seed ks h = rw is_plan.is_seed h
-
     offset_is : plan.r.bytes ≡ offset (garbling_of c seed want)
     unfolding offset seed_block
     offset_is = is_plan.is_offset ∙ rw is_seed
 
-    pub whole_walk : WalkOf c plan.seed.bytes plan.wanted plan
+    pub whole_walk : WalkOf c plan.seed.key.bytes plan.wanted plan
     whole_walk = go _ _ is_plan.is_seed is_plan.is_wanted
       where
         go : (x : List ℕ) (y : Wanted) → x ≡ k → y ≡ want → WalkOf c x y plan
@@ -97,16 +88,25 @@ module _ (c seed : List ℕ) (want : Wanted) (s : Sizes) (m z o : List ℕ) (sta
       unfolding header circuit_of
       header_is = front.header_is ∙ rw (is_plan.is_wanted, is_n, is_m, is_q, outputs_many c, tabulate_length)
 
-      zeros_are : z1 ≡ over (join_blocks (input_zeros (garbling_of c seed want))) z
+      -- the inputs' zero tokens, by the plan
+      zero_table : tabulate plan.n (input_zero plan) ≡ input_zeros (garbling_of c seed want)
       unfolding input_zeros seed_block circuit_of input_zero
-      zeros_are = front.inputs_are.zeros_left ∙ rw (is_plan.is_seed, is_seed, is_plan.is_wanted, is_plan.is_n, is_n)
+      zero_table = go _ _ _ is_plan.is_seed is_plan.is_wanted is_plan.is_n
+        where
+          go : (x : Block) (y : Wanted) (l : ℕ) → x ≡ k → y ≡ want → l ≡ s.n
+              → tabulate l (λ i. aes x (run_block y.run (i + 1))) ≡ tabulate (inputs c) (λ i. aes seed (run_block want.run (i + 1)))
+          go x y l e f h = rw (e, f, h, is_seed, is_n)
+
+      zeros_are : z1 ≡ over (join_blocks (input_zeros (garbling_of c seed want))) z
+      zeros_are = front.inputs_are.zeros_left ∙ ap (λ (l : List Block). over (join_blocks l) z) zero_table
+
+      one_table : tabulate plan.n (λ i. input_zero plan i ⊕ plan.r.bytes) ≡ input_ones (garbling_of c seed want)
+      unfolding input_ones one_token
+      one_table =
+          sym (tabulate_map (λ (b : Block). b ⊕ plan.r.bytes) plan.n (input_zero plan)) ∙ rw (zero_table, offset_is)
 
       ones_are : o1 ≡ over (join_blocks (input_ones (garbling_of c seed want))) o
-      unfolding input_ones input_zeros one_token seed_block circuit_of input_zero
-      ones_are =
-          front.inputs_are.ones_left
-          ∙ rw (offset_is, is_plan.is_seed, is_seed, is_plan.is_wanted, is_plan.is_n, is_n)
-          (ap (λ (l : List Block). over (join_blocks l) o) (sym (tabulate_map (one_token (garbling_of c seed want)) (inputs c) (λ i. seed_block (garbling_of c seed want) (i + 1)))))
+      ones_are = front.inputs_are.ones_left ∙ ap (λ (l : List Block). over (join_blocks l) o) one_table
 
       inputs_long : length (join_blocks (input_zeros (garbling_of c seed want))) ≡ 16 * inputs c
       unfolding circuit_of
@@ -121,7 +121,7 @@ module _ (c seed : List ℕ) (want : Wanted) (s : Sizes) (m z o : List ℕ) (sta
       zeros_same : length z1 ≡ length z
       zeros_same = ap length zeros_are ∙ over_length (join_blocks (input_zeros (garbling_of c seed want))) z (omega (arith, inputs_long, start.wires_room))
 
-      pub whole_body : BodyStart c plan.seed.bytes plan.wanted s m1 z1
+      pub whole_body : BodyStart c plan.seed.key.bytes plan.wanted s m1 z1
       unfolding over circuit_of
       whole_body = rw (is_plan.is_seed, is_plan.is_wanted, is_seed) record {
         sized = start.sized;
@@ -136,7 +136,7 @@ module _ (c seed : List ℕ) (want : Wanted) (s : Sizes) (m z o : List ℕ) (sta
       }
 
       -- the body as it was written
-      module _ (m2 z2 : List ℕ) (calls : ℕ) (body : BodyIs c plan.seed.bytes plan.wanted m1 z1 m2 z2 calls) where
+      module _ (m2 z2 : List ℕ) (calls : ℕ) (body : BodyIs c plan.seed.key.bytes plan.wanted m1 z1 m2 z2 calls) where
         done : BodyIs c seed want m1 z1 m2 z2 calls
         done = rw (is_plan.is_seed, is_plan.is_wanted, is_seed) at body
 

@@ -1,5 +1,5 @@
 -- The walk over the gates: what it starts from, and what one gate leaves in the buffers.
-use Rattle.std.specs.Prelude.{ℕ, suc, ◌+◌, ◌*◌, ◌≤◌, ◌<◌, ◌≡◌, Bool, cond, List, [], ◌∷◌, ◌++◌, length, take}
+use Rattle.std.specs.Prelude.{ℕ, suc, ◌+◌, ◌*◌, ◌≤◌, ◌<◌, ◌≡◌, Bool, cond, List, [], ◌∷◌, ◌++◌, map, length, take}
 use Rattle.model.specs.declared.Sizes.{Sizes}
 use Rattle.model.specs.declared.Wanted.{Wanted}
 use Rattle.model.specs.Bytes.{tabulate, over, put, two}
@@ -25,7 +25,7 @@ use Rattle.garble.specs.declared.gate.GateIn.{GateIn}
 -- p is made for a seed, for what is wanted of it, and for a circuit of n inputs
 pub record PlanIs (seed : Block) (want : Wanted) (n : ℕ) (p : Plan) : Type 0 where
   pub is_wanted : p.wanted ≡ want
-  pub is_seed : p.seed.bytes ≡ seed
+  pub is_seed : p.seed.key.bytes ≡ seed
   pub is_stored : p.stored ≡ (scheme_of want.scheme).stored
   pub is_stride : p.stride ≡ record_length (scheme_of want.scheme)
   pub is_n : p.n ≡ n
@@ -42,11 +42,10 @@ pub record WalkOf (c seed : List ℕ) (want : Wanted) (p : Plan) : Type 0 where
 -- a charged gate's record: its head, and its first rows
 unfoldable pub written_record : ℕ → ℕ → GarbledGate → List ℕ
 written_record own stored g =
-    0x47 ∷ 0x54 ∷ two own ++ join_blocks (take stored (g.row0.bytes ∷ g.row1.bytes ∷ g.row2.bytes ∷ g.row3.bytes ∷ []))
+    0x47 ∷ 0x54 ∷ two own ++ join_blocks (take stored (map (λ b. b.bytes) g.rows))
 
--- room for what writes a record of 2 to 4 rows
+-- room for what writes a record of so many rows, 4 at most
 pub record WriterRoom (at stored : ℕ) (m : List ℕ) : Type 0 where
-  pub low : 2 ≤ stored
   pub high : stored ≤ 4
   pub room : at + 4 + 16 * stored ≤ length m
 
@@ -54,7 +53,7 @@ pub record WriterRoom (at stored : ℕ) (m : List ℕ) : Type 0 where
 unfoldable pub site_at : Plan → GateIn → Site
 site_at p g = record {
   R = p.r.bytes;
-  fresh = aes p.seed.bytes (run_block p.wanted.run g.own.0);
+  fresh = aes p.seed.key.bytes (run_block p.wanted.run g.own.0);
   g = g.own.0;
   code = g.code;
   Xa = g.xa.bytes;

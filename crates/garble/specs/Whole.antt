@@ -1,5 +1,6 @@
 -- A whole garbling: what it starts from, and what it leaves.
 use Rattle.std.specs.Prelude.{ℕ, ◌+◌, ◌*◌, ◌≤◌, ◌≡◌, List, length, replicate}
+use Rattle.model.specs.declared.Garbled.{Garbled}
 use Rattle.model.specs.declared.Sizes.{Sizes}
 use Rattle.model.specs.declared.Wanted.{Wanted}
 use Rattle.model.specs.Bytes.{over}
@@ -9,7 +10,7 @@ use Rattle.model.specs.Garbling.{Known, zero_tokens, input_ones}
 use Rattle.model.specs.Material.{join_blocks, material}
 use Rattle.model.specs.Calls.{garble_calls, output_calls}
 use Rattle.model.specs.Refusals.{clash_verdict}
-use Rattle.model.specs.Operations.{Answer, answer, file_length, Made, garble_made, wiped}
+use Rattle.model.specs.Operations.{Answer, answer, file_length, garble_made, wiped}
 use Rattle.circuit.specs.Accepted.{Accepted}
 
 -- nothing refuses
@@ -40,7 +41,7 @@ pub record WipedTo (s : Sizes) (l : ℕ) (m z o m' z' o' : List ℕ) : Type 0 wh
   pub ones_left : o' ≡ over (replicate (16 * s.n) 0) o
 
 -- its outcome, by whether an output's two hashes are equal: 30, and zeros where the bytes were written (02, job 12)
-pub record OutcomeIs (c seed : List ℕ) (want : Wanted) (m z o : List ℕ) (r : Answer Made) (m' z' o' : List ℕ) : Type 0 where
+pub record OutcomeIs (c seed : List ℕ) (want : Wanted) (m z o : List ℕ) (r : Answer Garbled) (m' z' o' : List ℕ) : Type 0 where
   pub answered : r ≡ answer (clash_verdict (garbling_of c seed want)) (garble_made c seed want)
   pub material_left : m' ≡ over (wiped (clash_verdict (garbling_of c seed want)) (material (garbling_of c seed want))) m
   pub zeros_left : z' ≡ over (wiped (clash_verdict (garbling_of c seed want)) (join_blocks (zero_tokens (garbling_of c seed want)))) z

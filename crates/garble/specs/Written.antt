@@ -13,7 +13,7 @@ pub record InputsRoom (n : ℕ) (z o : List ℕ) : Type 0 where
 
 -- the zero token of input i, from 0, by a plan
 unfoldable pub input_zero : Plan → ℕ → Block
-input_zero p i = aes p.seed.bytes (run_block p.wanted.run (i + 1))
+input_zero p i = aes p.seed.key.bytes (run_block p.wanted.run (i + 1))
 
 -- the zero and the one tokens of all inputs: z, o at entry and z', o' at exit
 pub record InputsIs (p : Plan) (z o z' o' : List ℕ) : Type 0 where
@@ -26,8 +26,7 @@ pub record InputsIs (p : Plan) (z o z' o' : List ℕ) : Type 0 where
 unfoldable pub input_token : ℕ → List ℕ → List ℕ → ℕ → Block
 input_token value z o i = get_or (take 16 (drop (16 * i) z) ∷ take 16 (drop (16 * i) o) ∷ []) value (block 0)
 
-pub record TokenRoom (value : ℕ) (z o : List ℕ) (i : ℕ) : Type 0 where
-  pub bit : value ≤ 1
+pub record TokenRoom (z o : List ℕ) (i : ℕ) : Type 0 where
   pub zeros : 16 * i + 16 ≤ length z
   pub ones : 16 * i + 16 ≤ length o
 

@@ -1,28 +1,17 @@
-use borrow.Author.Rules.{rules}
-use Rattle.model.proofs.Verdicts.{steps}
+use Rattle.model.proofs.Verdicts.{steps, ran_passed}
 use Rattle.garble.specs.Answers.{rooms_verdict}
+use Rattle.garble.proofs.GarbleIsLaws.{room_made}
 use Rattle.garble.proofs.arguments.check_rooms.Goals as goal
 
-pub check_file_room-requires : goal.check_file_room-requires
+pub returns-in_err-check_room : goal.returns-in_err-check_room
 unfolding rooms_verdict
-check_file_room-requires c = search rules
+returns-in_err-check_room c = ran_passed _ _ c.from_residual.ensures.1 _ (search (steps, room_made _ _ _ _ c.file_length.ensures c.in_err-check_room.ensures) depth 8)
 
-pub check_room-requires : goal.check_room-requires
+pub returns-in_err-check_room-2 : goal.returns-in_err-check_room-2
 unfolding rooms_verdict
-check_room-requires c = search rules
+returns-in_err-check_room-2 c = ran_passed _ _ c.from_residual-in_err-check_room-2.ensures.1 _
+    (search (steps, room_made _ _ _ _ c.file_length.ensures c.in_ok-check_room.ensures, c.in_err-check_room-2.ensures) depth 8)
 
-pub check_room-requires-in-Done-check_room : goal.check_room-requires-in-Done-check_room
+pub returns : goal.returns
 unfolding rooms_verdict
-check_room-requires-in-Done-check_room c = search rules
-
-pub returns-in-Refused : goal.returns-in-Refused
-unfolding rooms_verdict
-returns-in-Refused c = search steps depth 8
-
-pub returns-in-Refused-check_room : goal.returns-in-Refused-check_room
-unfolding rooms_verdict
-returns-in-Refused-check_room c = search steps depth 8
-
-pub returns-in-Done-check_room : goal.returns-in-Done-check_room
-unfolding rooms_verdict
-returns-in-Done-check_room c = search steps depth 8
+returns c = search (steps, room_made _ _ _ _ c.file_length.ensures c.in_ok-check_room.ensures, c.in_ok-check_room-2.ensures) depth 8

@@ -1,36 +1,19 @@
-use borrow.Author.Rules.{rules}
-use Rattle.model.proofs.Verdicts.{steps}
+use Rattle.model.proofs.Verdicts.{steps, ran_passed}
 use Rattle.garble.specs.Answers.{encode_arguments}
 use Rattle.garble.proofs.arguments.encode_arguments.Goals as goal
 
-pub check_values-requires : goal.check_values-requires
+pub returns-in_err-check_values : goal.returns-in_err-check_values
 unfolding encode_arguments
-check_values-requires c = search rules
+returns-in_err-check_values c = ran_passed _ _ c.from_residual.ensures.1 _ (search (steps, c.in_err-check_values.ensures) depth 8)
 
-pub check_tokens-requires : goal.check_tokens-requires
+pub returns-in_err-check_tokens : goal.returns-in_err-check_tokens
 unfolding encode_arguments
-check_tokens-requires c = search rules
+returns-in_err-check_tokens c = ran_passed _ _ c.from_residual-in_err-check_tokens.ensures.1 _ (search (steps, c.in_ok-check_values.ensures, c.in_err-check_tokens.ensures) depth 8)
 
-pub check_tokens-requires-in-Done-check_tokens : goal.check_tokens-requires-in-Done-check_tokens
+pub returns-in_err-check_tokens-2 : goal.returns-in_err-check_tokens-2
 unfolding encode_arguments
-check_tokens-requires-in-Done-check_tokens c = search rules
+returns-in_err-check_tokens-2 c = ran_passed _ _ c.from_residual-in_err-check_tokens-2.ensures.1 _ (search (steps, c.in_ok-check_values.ensures, c.in_ok-check_tokens.ensures, c.in_err-check_tokens-2.ensures) depth 8)
 
-pub check_room-requires : goal.check_room-requires
+pub returns : goal.returns
 unfolding encode_arguments
-check_room-requires c = search rules
-
-pub returns-in-Refused : goal.returns-in-Refused
-unfolding encode_arguments
-returns-in-Refused c = search steps depth 8
-
-pub returns-in-Refused-check_tokens : goal.returns-in-Refused-check_tokens
-unfolding encode_arguments
-returns-in-Refused-check_tokens c = search steps depth 8
-
-pub returns-in-Refused-check_tokens-2 : goal.returns-in-Refused-check_tokens-2
-unfolding encode_arguments
-returns-in-Refused-check_tokens-2 c = search steps depth 8
-
-pub returns-in-Done-check_tokens-2 : goal.returns-in-Done-check_tokens-2
-unfolding encode_arguments
-returns-in-Done-check_tokens-2 c = search steps depth 8
+returns c = search (steps, c.in_ok-check_values.ensures, c.in_ok-check_tokens.ensures, c.in_ok-check_tokens-2.ensures) depth 8

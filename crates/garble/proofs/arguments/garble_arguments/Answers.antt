@@ -1,36 +1,19 @@
-use borrow.Author.Rules.{rules}
-use Rattle.model.proofs.Verdicts.{steps}
+use Rattle.model.proofs.Verdicts.{steps, ran_passed}
 use Rattle.garble.specs.Answers.{garble_arguments}
 use Rattle.garble.proofs.arguments.garble_arguments.Goals as goal
 
-pub check_seed-requires : goal.check_seed-requires
+pub returns-in_err-check_seed : goal.returns-in_err-check_seed
 unfolding garble_arguments
-check_seed-requires c = search rules
+returns-in_err-check_seed c = ran_passed _ _ c.from_residual.ensures.1 _ (search (steps, c.in_err-check_seed.ensures) depth 8)
 
-pub check_mark-requires : goal.check_mark-requires
+pub returns-in_err-check_mark : goal.returns-in_err-check_mark
 unfolding garble_arguments
-check_mark-requires c = search rules
+returns-in_err-check_mark c = ran_passed _ _ c.from_residual-in_err-check_mark.ensures.1 _ (search (steps, c.in_ok-check_seed.ensures, c.in_err-check_mark.ensures) depth 8)
 
-pub check_scheme-requires : goal.check_scheme-requires
+pub returns-in_err-check_scheme : goal.returns-in_err-check_scheme
 unfolding garble_arguments
-check_scheme-requires c = search rules
+returns-in_err-check_scheme c = ran_passed _ _ c.from_residual-in_err-check_scheme.ensures.1 _ (search (steps, c.in_ok-check_seed.ensures, c.in_ok-check_mark.ensures, c.in_err-check_scheme.ensures) depth 8)
 
-pub check_rooms-requires : goal.check_rooms-requires
+pub returns : goal.returns
 unfolding garble_arguments
-check_rooms-requires c = search rules
-
-pub returns-in-Refused : goal.returns-in-Refused
-unfolding garble_arguments
-returns-in-Refused c = search steps depth 8
-
-pub returns-in-Refused-check_mark : goal.returns-in-Refused-check_mark
-unfolding garble_arguments
-returns-in-Refused-check_mark c = search steps depth 8
-
-pub returns-in-Refused-check_scheme : goal.returns-in-Refused-check_scheme
-unfolding garble_arguments
-returns-in-Refused-check_scheme c = search steps depth 8
-
-pub returns-in-Done-check_scheme : goal.returns-in-Done-check_scheme
-unfolding garble_arguments
-returns-in-Done-check_scheme c = search steps depth 8
+returns c = search (steps, c.in_ok-check_seed.ensures, c.in_ok-check_mark.ensures, c.in_ok-check_scheme.ensures) depth 8

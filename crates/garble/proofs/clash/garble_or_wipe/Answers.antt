@@ -1,3 +1,4 @@
+use borrow.Author.Rules.{rules}
 use Rattle.garble.proofs.ClashLaws.{outcome_wipe, outcome_wiped, outcome_done, outcome_cases}
 use Rattle.garble.proofs.clash.garble_or_wipe.Goals as goal
 
@@ -13,9 +14,9 @@ find_clash-requires-clause-wanted_in_bounds c = search outcome_cases
 pub wipe-requires : goal.wipe-requires
 wipe-requires c = outcome_wipe _ _ _ _ _ _ _ c.requires _ _ _ _ c.garble_whole-calls.ensures _ c.file_length-length.ensures
 
-pub returns-in-Refused : goal.returns-in-Refused
-returns-in-Refused c = outcome_wiped _ _ _ _ _ _ _ c.requires _ _ _ _ c.garble_whole-calls.ensures _ c.file_length-length.ensures _ c.find_clash.ensures _ c.in-Refused.is _ _ _
+pub returns-in-Err : goal.returns-in-Err
+returns-in-Err c = outcome_wiped _ _ _ _ _ _ _ c.requires _ _ _ _ c.garble_whole-calls.ensures _ c.file_length-length.ensures _ c.find_clash.ensures _ c.in-Err.is _ _ _
     c.wipe.ensures
 
-pub returns-in-Done : goal.returns-in-Done
-returns-in-Done c = outcome_done _ _ _ _ _ _ _ c.requires _ _ _ _ c.garble_whole-calls.ensures _ c.file_length-length.ensures _ c.find_clash.ensures c.in-Done.is
+pub returns : goal.returns
+returns c = outcome_done _ _ _ _ _ _ _ c.requires _ _ _ _ c.garble_whole-calls.ensures _ c.file_length-length.ensures _ c.find_clash.ensures (search rules)

@@ -5,17 +5,14 @@ use Rattle.garble.proofs.last.write_hashes.Goals as goal
 pub loop-i-init : goal.loop-i-init
 loop-i-init c = search hashes_cases
 
-pub overflow_mul-here : goal.overflow_mul-here
-overflow_mul-here c = search (hashes_cases, rules)
+pub output_wire-requires : goal.output_wire-requires
+output_wire-requires c = search (hashes_cases, rules)
 
-pub output_wire-w-requires : goal.output_wire-w-requires
-output_wire-w-requires c = search (hashes_cases, rules)
+pub wire_token-x-requires-clause-wire_low : goal.wire_token-x-requires-clause-wire_low
+wire_token-x-requires-clause-wire_low c = search (hashes_cases, rules)
 
-pub overflow_sub-w : goal.overflow_sub-w
-overflow_sub-w c = search (hashes_cases, rules)
-
-pub load-x-requires : goal.load-x-requires
-load-x-requires c = search (hashes_cases, rules)
+pub wire_token-x-requires-clause-wire_high : goal.wire_token-x-requires-clause-wire_high
+wire_token-x-requires-clause-wire_high c = search (hashes_cases, rules)
 
 pub write_pair-requires-clause-number_bound : goal.write_pair-requires-clause-number_bound
 write_pair-requires-clause-number_bound c = search (hashes_cases, rules)

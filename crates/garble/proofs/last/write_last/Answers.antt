@@ -8,8 +8,8 @@ write_last_head-requires c = search last_cases
 pub overflow_add-at : goal.overflow_add-at
 overflow_add-at c = search (last_cases, rules)
 
-pub write_hashes-requires-clause-hashes_start : goal.write_hashes-requires-clause-hashes_start
-write_hashes-requires-clause-hashes_start c = search last_cases
+pub write_hashes-requires : goal.write_hashes-requires
+write_hashes-requires c = search last_cases
 
 pub overflow_mul-result : goal.overflow_mul-result
 overflow_mul-result c = search (last_cases, rules)

@@ -5,21 +5,18 @@ use Rattle.garble.proofs.walk.garble_gates.Goals as goal
 use Rattle.garble.proofs.walk.garble_gates.Goals.{then-plan-eq1, else-plan-eq1}
 
 pub loop-k-init : goal.loop-k-init
-loop-k-init c = walk_start _ _ _ _ c.requires.walk_of _ _ _ c.requires.gates_start _ (c.hold-held.ensures.0 _ c.requires.seed_planes)
+loop-k-init c = walk_start _ _ _ _ c.requires.walk_of _ _ _ c.requires.gates_start _ (c.new-held.ensures.0 _ c.args.plan.now.seed.is_seed)
 
-pub fresh_block-taken-requires-clause-seed_planes : goal.fresh_block-taken-requires-clause-seed_planes
-fresh_block-taken-requires-clause-seed_planes c = c.requires.seed_planes
+pub fresh_block-fresh-requires-clause-held_is : goal.fresh_block-fresh-requires-clause-held_is
+fresh_block-fresh-requires-clause-held_is c = c.loop-k.invariant.held_is
 
-pub fresh_block-taken-requires-clause-held_is : goal.fresh_block-taken-requires-clause-held_is
-fresh_block-taken-requires-clause-held_is c = c.loop-k.invariant.held_is
-
-pub fresh_block-taken-requires-clause-gates_room : goal.fresh_block-taken-requires-clause-gates_room
-fresh_block-taken-requires-clause-gates_room c = walk_ahead _ _ _ _ c.requires.walk_of _ _ _ c.requires.gates_start
+pub fresh_block-fresh-requires-clause-gates_room : goal.fresh_block-fresh-requires-clause-gates_room
+fresh_block-fresh-requires-clause-gates_room c = walk_ahead _ _ _ _ c.requires.walk_of _ _ _ c.requires.gates_start
 
 -- the block of gate k: by scheme 1 it was taken, and the others have no use for it
 pub garble_step-step-requires-clause-fresh_is : goal.garble_step-step-requires-clause-fresh_is
 garble_step-step-requires-clause-fresh_is c = elim c.if-plan-eq1.branch [
-  | then-plan-eq1 w ↦ rw w.fresh-is w.fresh_block-taken.ensures.fresh_is
+  | then-plan-eq1 w ↦ rw w.fresh-is w.fresh_block-fresh.ensures.fresh_is
   | else-plan-eq1 w ↦ fresh_other _ _ _ _ _ w.if-plan-eq1.false
 ]
 
@@ -32,7 +29,7 @@ overflow_add-calls c = walk_calls _ _ _ _ c.requires.walk_of _ _ _ c.requires.ga
 pub loop-k-preserved : goal.loop-k-preserved
 loop-k-preserved c = walk_turn _ _ _ _ c.requires.walk_of _ _ _ c.requires.gates_start _ _ _ _ _ _ c.loop-k.invariant (search rules) _ _ _ _ c.garble_step-step.ensures _
     (elim c.if-plan-eq1.branch [
-      | then-plan-eq1 w ↦ rw w.held-is w.fresh_block-taken.ensures.held_is
+      | then-plan-eq1 w ↦ rw w.held-is w.fresh_block-fresh.ensures.held_is
       | else-plan-eq1 w ↦ rw w.held-is c.loop-k.invariant.held_is
     ])
 

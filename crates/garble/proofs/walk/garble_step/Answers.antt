@@ -1,31 +1,19 @@
-use Rattle.garble.proofs.StepLaws.{step_cases, step_next, step_fresh, step_charged, step_bits, step_slot, step_free}
+use Rattle.garble.proofs.StepLaws.{step_cases, step_next, step_charged, step_free}
 use Rattle.garble.proofs.walk.garble_step.Goals as goal
-
-pub read_operands-g-requires : goal.read_operands-g-requires
-read_operands-g-requires c = search step_cases
 
 pub garble_charged-calls-requires-clause-charged_start : goal.garble_charged-calls-requires-clause-charged_start
 garble_charged-calls-requires-clause-charged_start c = search step_cases
-
-pub garble_charged-calls-requires-clause-fresh_is : goal.garble_charged-calls-requires-clause-fresh_is
-garble_charged-calls-requires-clause-fresh_is c = step_fresh _ _ _ _ c.requires.walk_of _ _ _ _ c.requires.step_start _ c.read_operands-g.ensures _ _ _ c.requires.fresh_is
 
 -- the place past the record
 pub overflow_add-at : goal.overflow_add-at
 overflow_add-at c = step_next _ _ _ _ c.requires.walk_of _ _ _ _ c.requires.step_start
 
-pub free_zero-requires : goal.free_zero-requires
-free_zero-requires c = step_bits _ _ _ _ c.requires.walk_of _ _ _ _ c.requires.step_start _ c.read_operands-g.ensures _ c.code_kind.ensures _ _ _ c.in-Free.is
-
-pub store-requires : goal.store-requires
-store-requires c = step_slot _ _ _ _ c.requires.walk_of _ _ _ _ c.requires.step_start
-
 pub returns-in-Charged : goal.returns-in-Charged
-returns-in-Charged c = step_charged _ _ _ _ c.requires.walk_of _ _ _ _ c.requires.step_start _ c.read_operands-g.ensures _ c.code_kind.ensures _ _ _ c.in-Charged.is _ _ _
+returns-in-Charged c = step_charged _ _ _ _ c.requires.walk_of _ _ _ _ c.requires.step_start _ c.read-g.ensures _ c.code_kind.ensures _ c.in-Charged.is _ _ _
     c.garble_charged-calls.ensures
 
 pub returns-in-Free : goal.returns-in-Free
-returns-in-Free c = step_free _ _ _ _ c.requires.walk_of _ _ _ _ c.requires.step_start _ c.read_operands-g.ensures _ c.code_kind.ensures _ _ _ c.in-Free.is _ _
+returns-in-Free c = step_free _ _ _ _ c.requires.walk_of _ _ _ _ c.requires.step_start _ c.read-g.ensures _ c.code_kind.ensures _ c.in-Free.is _ _
     c.free_zero.ensures c.store.ensures
 
 pub returns-in-Refused : goal.returns-in-Refused

@@ -4,8 +4,8 @@ use Rattle.garble.proofs.whole.garble_body.Goals as goal
 pub last_start-at-requires : goal.last_start-at-requires
 last_start-at-requires c = search body_cases
 
-pub write_last-hashes-requires-clause-last_start : goal.write_last-hashes-requires-clause-last_start
-write_last-hashes-requires-clause-last_start c = search body_cases
+pub write_last-hashes-requires : goal.write_last-hashes-requires
+write_last-hashes-requires c = search body_cases
 
 pub overflow_add-result : goal.overflow_add-result
 overflow_add-result c = search body_cases
