@@ -1,4 +1,5 @@
 -- Decode: its refusals, what they tell where none holds, and what it leaves. Assumes nothing.
+use Rattle.std.specs.Prelude.{Result, Ok, Err}
 use Prim.Native.Nat.{ℕ, ◌≤◌, ◌<◌}
 use native.Mathlib.Omega.{arith}
 use mathlib.Core.Path.{◌≡◌, sym, ap₂, ◌∙◌}
@@ -7,14 +8,12 @@ use mathlib.Core.List.{List}
 use lib.ListN.{length}
 use Rattle.model.specs.declared.Sizes.{Sizes}
 use Rattle.model.specs.declared.Refusal.{Refusal}
-use Rattle.model.specs.declared.Checked.{Checked}
-use Rattle.model.specs.declared.Ran.{Ran}
 use Rattle.model.specs.Circuit.{circuit_of, outputs}
 use Rattle.model.specs.Ending.{hashes, ending_of}
 use Rattle.model.specs.Material.{hashed, last_bytes}
 use Rattle.model.specs.Evaluation.{cut, stored_at, decode, decode_bytes}
 use Rattle.model.specs.Refusals.{Verdict, refused, ◌then◌, first_of, verdict_of, token_verdict, unknown_verdict}
-use Rattle.model.specs.Operations.{written, sizes_of, checked_of, check_answer, ran_of, decode_verdict, DecodeIs}
+use Rattle.model.specs.Operations.{written, sizes_of, check_answer, ran_of, decode_verdict, DecodeIs, answer_of}
 use Rattle.model.proofs.Lists.{from_cong}
 use Rattle.model.proofs.Outputs.{outputs_many}
 use Rattle.model.proofs.Blocks.{cut_at}
@@ -45,12 +44,12 @@ module _ (c ts s o : List ℕ) where
   refused_is i x e = record { answered = e; left = rw (← e) }
 
   -- check's answer r
-  module _ (r : Checked) (is_r : checked_of r ≡ check_answer c) where
-    pub decode_circuit : (f : Refusal) → r ≡ Checked.Refused f → DecodeIs c ts s o (verdict_of f) o
+  module _ (r : Result Sizes Refusal) (is_r : answer_of r ≡ check_answer c) where
+    pub decode_circuit : (f : Refusal) → r ≡ Err f → DecodeIs c ts s o (verdict_of f) o
     decode_circuit f e = refused_is _ _ (rw decode_verdict_law (then_refused _ _ _ _ (check_refused c r is_r f e)))
 
     -- and that of what it left to try
-    module _ (z : Sizes) (e : r ≡ Checked.Accepted z) (t : Ran) (is_t : ran_of t ≡ rest_verdict c z.m ts s z.m (length o)) where
+    module _ (z : Sizes) (e : r ≡ Ok z) (t : Result Unit Refusal) (is_t : ran_of t ≡ rest_verdict c z.m ts s z.m (length o)) where
       known : Accepted c z
       known = check_accepted c r is_r z e
 
@@ -63,10 +62,10 @@ module _ (c ts s o : List ℕ) where
           left_to_try c z known (λ x. (rest_verdict c x.m ts s x.m (length o) then first_of (known_verdict (ending_of (hashed s)) ts s (stored_start s x.m)) x.m))
           ∙ rw (verdict_is c ts s (outputs c) (outputs_many c)) (sym (decode_verdict_law c ts s (length o)))
 
-      pub decode_turned : (f : Refusal) → t ≡ Ran.Refused f → DecodeIs c ts s o (verdict_of f) o
+      pub decode_turned : (f : Refusal) → t ≡ Err f → DecodeIs c ts s o (verdict_of f) o
       decode_turned f g = refused_is _ _ (then_refused _ _ _ _ (ran_refused t _ is_t f g) ∙ rest)
 
-      module _ (g : t ≡ Ran.Done) where
+      module _ (g : t ≡ Ok tt) where
         holds : RestHolds c z.m ts s z.m (length o)
         holds = rest_holds c _ ts s _ _ (sym (ran_done t _ is_t g))
 

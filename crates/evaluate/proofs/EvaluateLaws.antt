@@ -1,4 +1,5 @@
 -- Evaluate: its refusals, what they tell where none holds, and what it leaves. Assumes nothing.
+use Rattle.std.specs.Prelude.{Result, Ok, Err}
 use Prim.Native.Nat.{ℕ, ◌+◌, ◌*◌}
 use native.Mathlib.Omega.{arith}
 use mathlib.Core.Path.{◌≡◌, sym, ◌∙◌}
@@ -8,10 +9,8 @@ use mir.Syntax.{w64}
 use mir.Val.{Fits}
 use Rattle.model.specs.declared.Sizes.{Sizes}
 use Rattle.model.specs.declared.Refusal.{Refusal}
-use Rattle.model.specs.declared.Checked.{Checked}
-use Rattle.model.specs.declared.Ran.{Ran}
 use Rattle.model.specs.Refusals.{fine, refused, verdict_of}
-use Rattle.model.specs.Operations.{no, yes, sizes_of, checked_of, check_answer, ran_of, evaluate_verdict, EvaluateIs}
+use Rattle.model.specs.Operations.{no, yes, sizes_of, check_answer, ran_of, evaluate_verdict, EvaluateIs, answer_of}
 use Rattle.model.proofs.Verdicts.{then_fine, then_refused, ran_refused, ran_done}
 use Rattle.circuit.specs.Accepted.{Accepted}
 use Rattle.circuit.proofs.AcceptedLaws.{check_refused, check_accepted, check_bounded, left_to_try, is_n, is_q}
@@ -44,11 +43,11 @@ module _ (c ts s o : List ℕ) where
   refused_is i x e = record { answered = rw (← e); left = rw (← e) }
 
   -- check's answer r
-  module _ (r : Checked) (is_r : checked_of r ≡ check_answer c) where
-    pub evaluate_circuit : (f : Refusal) → r ≡ Checked.Refused f → EvaluateIs c ts s o (no (verdict_of f)) o
+  module _ (r : Result Sizes Refusal) (is_r : answer_of r ≡ check_answer c) where
+    pub evaluate_circuit : (f : Refusal) → r ≡ Err f → EvaluateIs c ts s o (no (verdict_of f)) o
     evaluate_circuit f e = refused_is _ _ (rw evaluate_verdict_law (then_refused _ _ _ _ (check_refused c r is_r f e)))
 
-    module _ (z : Sizes) (e : r ≡ Checked.Accepted z) where
+    module _ (z : Sizes) (e : r ≡ Ok z) where
       known : Accepted c z
       known = check_accepted c r is_r z e
 
@@ -59,17 +58,17 @@ module _ (c ts s o : List ℕ) where
       bytes_fit = omega (arith, (check_bounded c r is_r z e).wires)
 
       -- and that of what it left to try
-      module _ (t : Ran) (is_t : ran_of t ≡ rest_verdict c z.n ts s (16 * (z.n + z.q)) (length o)) where
+      module _ (t : Result Unit Refusal) (is_t : ran_of t ≡ rest_verdict c z.n ts s (16 * (z.n + z.q)) (length o)) where
         tried : ran_of t ≡ evaluate_verdict c ts s (length o)
         unfolding sizes_of
         tried =
             is_t ∙ left_to_try c z known (λ x. rest_verdict c x.n ts s (16 * (x.n + x.q)) (length o))
             ∙ sym (evaluate_verdict_law c ts s (length o))
 
-        pub evaluate_turned : (f : Refusal) → t ≡ Ran.Refused f → EvaluateIs c ts s o (no (verdict_of f)) o
+        pub evaluate_turned : (f : Refusal) → t ≡ Err f → EvaluateIs c ts s o (no (verdict_of f)) o
         evaluate_turned f g = refused_is _ _ (ran_refused t _ tried f g)
 
-        module _ (g : t ≡ Ran.Done) where
+        module _ (g : t ≡ Ok tt) where
           pub evaluate_start : WiresStart c ts s z.n z.q o
           evaluate_start = evaluate_fine (sym (ran_done t _ tried g)) z known
 

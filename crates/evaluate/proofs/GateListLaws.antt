@@ -1,676 +1,522 @@
 -- Evaluation over a list of gate records: a law for each return of the functions of src/list.rt. Assumes nothing.
-use Prim.Native.Nat.{ℕ, zero, suc, ◌+◌, ◌*◌, ◌≤◌, ◌<◌, ◌^◌}
+use Prim.Native.Nat.{ℕ, zero, suc, ◌+◌, ◌*◌, ◌-◌, ◌≤◌, ◌<◌, ◌^◌}
 use native.Mathlib.Numerals.{add-one}
-use native.Mathlib.Decide.{dec_lt}
 use native.Mathlib.Omega.{arith}
 use mathlib.Core.Path.{◌≡◌, refl, sym, ap, ◌∙◌}
-use mathlib.Core.Bool.{Bool, true, false, ◌&&◌, ◌||◌, not}
+use mathlib.Core.Bool.{Bool, true, false, ◌&&◌, not, cond}
 use mathlib.Core.List.{List}
-use borrow.Author.Tests.{le-leb, lt-leb, lt-ltb, le-ltb, eq-eqb, eqb-true, ne_eqb, not-true, not-false}
+use borrow.Author.Tests.{le-leb, lt-leb, lt-ltb, le-ltb, leb-true, leb-false, eq-eqb, eqb-true, eqb-false, ne_eqb, not-true, not-false}
 use lib.Dec.{leb, eqb}
 use lib.ListN.{length, get_or, get_or-eq_default}
-use mir.Syntax.{w64}
+use mir.Syntax.{w16, w64}
 use mir.Val.{Fits}
+use Rattle.std.specs.Prelude.{Result, Ok, Err, Option, None, Some}
 use Rattle.model.specs.declared.Gate.{Gate}
 use Rattle.model.specs.declared.Sizes.{Sizes}
-use Rattle.model.specs.declared.Wire.{Wire}
 use Rattle.model.specs.declared.Refusal.{Refusal}
-use Rattle.model.specs.declared.Refusal.TheVariants.{Limits, TokensLength, RowRecord, Room}
-use Rattle.model.specs.declared.Ran.{Ran}
-use Rattle.model.specs.declared.Evaluated.{Evaluated}
-use Rattle.model.specs.Bytes.{be16, over}
-use Rattle.model.specs.Circuit.{circuit_of, inputs, gates, gate_at, mark_at, kind_of, charge, sizes_hold}
+use Rattle.model.specs.Bytes.{tabulate, over}
+use Rattle.model.specs.Circuit.{circuit_of, inputs, outputs, gates, gate_at, kind_of, charge, charges, sizes_hold, circuit_bytes}
 use Rattle.model.specs.Scheme.{record_length}
 use Rattle.model.specs.Garbling.{scheme_of}
-use Rattle.model.specs.Material.{hashed}
-use Rattle.model.specs.Refusals.{Verdict, fine, refused, refuse, ◌then◌, first_of, number_of, place_of, verdict_of, head_verdict, gate_verdict, record_verdict, gates_verdict, outputs_verdict, circuit_verdict, tokens_verdict, file_verdict, material_verdict, last_verdict, room_verdict, row_record_at}
-use Rattle.model.specs.Operations.{sizes_of, ran_of, evaluated_of, evaluate_verdict, EvaluateIs}
-use Rattle.model.proofs.Lists.{tabulate_snoc}
-use Rattle.model.proofs.Circuits.{charge_le, charges_snoc}
+use Rattle.model.specs.Refusals.{Verdict, fine, refused, refuse, ◌then◌, first_of, verdict_of, head_verdict, gate_verdict, record_verdict, gates_verdict, outputs_verdict, circuit_verdict, file_verdict, row_record_at}
+use Rattle.model.specs.Operations.{no, yes, answer_of, ran_of, sizes_of, evaluate_verdict, EvaluateIs, evaluate_gates_verdict, EvaluateGatesIs}
+use Rattle.model.proofs.Lists.{tabulate_snoc, tabulate_length}
+use Rattle.model.proofs.Circuits.{charge_le, charges_le, charges_snoc}
 use Rattle.model.proofs.Places.{record_high, record_low}
-use Rattle.model.proofs.Verdicts.{then_fine, refuse_fine, and_both, Given, yes_given, Turned, no_turned, first_next, first_found}
-use Rattle.circuit.specs.declared.gates.GateRead.{GateRead}
+use Rattle.model.proofs.Accepted.{SizesHold, header_holds}
+use Rattle.model.proofs.Records.{no_gate, GateFits, inputs_made, outputs_made, gates_made, not_named, head_made, gate_made, mark_made}
+use Rattle.model.proofs.Verdicts.{then_fine, refuse_fine, and_both, then_nothing, then_refused, Given, yes_given, Turned, no_turned, no_given, first_next, first_found, ran_refused, ran_done}
 use Rattle.circuit.specs.Accepted.{Accepted}
 use Rattle.circuit.specs.Answers as Read
-use Rattle.circuit.specs.Answers.{gate_of}
-use Rattle.circuit.proofs.AcceptedLaws.{limits, is_n, is_q}
+use Rattle.circuit.proofs.AcceptedLaws.{is_n, left_to_try}
 use Rattle.material.specs.declared.records.Cursor.{Cursor}
-use Rattle.material.specs.declared.records.Step.{Step}
-use Rattle.material.specs.Answers.{Filed, step_of, row_answer, records_verdict}
-use Rattle.material.proofs.RowLaws.{row_first, row_end}
-use Rattle.material.proofs.RecordLaws.{Reading, at_turn, pass_answer, gate_passed, turn_next, turn_fault, one_charged, answer_free, answer_wrong, answer_right}
-use Rattle.material.proofs.MaterialLaws.{by_record, by_last, material_file, filed}
-use Rattle.evaluate.specs.declared.list.Walk.{Walk}
+use Rattle.material.specs.Answers.{Filed, step_of, row_answer, records_answer}
+use Rattle.material.proofs.RowLaws.{row_room, filed_holds}
+use Rattle.material.proofs.MaterialLaws.{filed}
+use Rattle.material.proofs.RecordLaws.{Reading, records_start, at_turn, gate_passed, turn_next, records_end, records_fault, one_charged, answer_free, answer_wrong, answer_right}
+use Rattle.evaluate.specs.declared.list.Tried.{Tried}
 use Rattle.evaluate.specs.Answers.{rest_verdict}
-use Rattle.scheme.specs.Rows.{RecordRoom}
-use Rattle.evaluate.specs.Walk.{TokenIs, FreeTokenIs, WiresStart, Walking}
-use Rattle.evaluate.specs.GateList.{Ended, GoesTo, Begun, Onward, GateIs, RowsRight, Guessed, Tried, Checked, Written, Stands, TriedLeads, TryLeads, CheckedLeads, CheckLeads, WriteLeads, Few, RowPassed, Tries, Checks, Writes}
+use Rattle.evaluate.specs.Walk.{TokenStart, OpenedTo, WiresStart, WalkStart, Walking, WalkedIs}
+use Rattle.evaluate.specs.GateList.{limits_verdict, limits_answer, ListStart, stride, row_passed, CursorFits, rows_seen, tried_answer, ListSeen, RowsSeen, StartsAt, RowRoom, pass_answer}
 use Rattle.evaluate.proofs.RestLaws.{evaluate_verdict_law}
-use Rattle.evaluate.proofs.WalkLaws.{few_made, charged_room, charge_cases, walk_start, walk_turn, walk_end, wires_walk, wires_done}
+use Rattle.evaluate.proofs.WalkLaws.{walk_scheme, walk_start, walk_few, walk_end, walk_token, walk_stepped, wires_walk, wires_done}
 use Rattle.evaluate.proofs.EvaluateLaws.{evaluate_fine, evaluate_made}
 
 -- ---- stride_of, of the bytes as they were counted
 
-pub stride_none : (s : List ℕ) (stride : ℕ) → length s ≤ 2 → stride ≡ record_length (scheme_of 0) → stride ≡ record_length (scheme_of (get_or s 2 0))
-stride_none s stride h e = e ∙ ap (λ (x : ℕ). record_length (scheme_of x)) (sym (get_or-eq_default s 0 h))
-
--- ---- begin
-
-pub neither : {A : Type 0} {b : Bool} → b ≡ false → b ≡ true → A
-neither e f = absurd (let z : ◌≡◌ {A = ℕ} 0 1 = cc in omega arith)
-
-module _ (n m q : ℕ) (s : List ℕ) (r : Walk) where
-  -- 3, where its condition is met
-  limited : (leb q 65535 && sizes_hold false n m q) ≡ false → Ended (Evaluated.Refused Limits) r → Begun n m q s r
-  limited h e = record { goes = λ t. neither h t; stops = λ _. e }
-
-  pub begun_many : 65535 < q → Ended (Evaluated.Refused Limits) r → Begun n m q s r
-  begun_many h = limited (rw (lt-leb _ _ h))
-
-  -- the limits as they were tried
-  module _ (few : q ≤ 65535) (b : Bool) (is_b : b ≡ sizes_hold false n m q) where
-    pub begun_limits : not b ≡ true → Ended (Evaluated.Refused Limits) r → Begun n m q s r
-    begun_limits h = limited (rw (le-leb _ _ few, ← is_b, not-true b h))
-
-    pub begun_first : not b ≡ false → (here : Cursor) → here.at ≡ 9 → (stride : ℕ) → stride ≡ record_length (scheme_of (get_or s 2 0))
-        → GoesTo 0 0 (record { n = n; m = m; q = q; p = 0 }) here stride 0 r → Begun n m q s r
-    begun_first h here at stride is_stride g = record {
-      goes = λ _. let e : here ≡ record { at = 9 } = ap (λ (x : ℕ). record { at = x }) at in rw (← e, ← is_stride) g;
-      stops = λ e. neither e (rw (le-leb _ _ few, ← is_b, not-false b h));
-    }
-
-pub ruleset begin_cases = (begun_many, begun_limits, begun_first)
-
--- ---- where the walk stands
-
-module _ (c ts s o : List ℕ) (left : ℕ) (w : Walk) (d : List ℕ) where
-  -- it is over
-  ends : w.pass ≡ 3 → EvaluateIs c ts s o (evaluated_of w.answer) d → Stands c ts s o left w d
-  ends e is = record {
-    passes = omega (arith, e);
-    more = λ h. absurd (omega (arith, e));
-    strides = λ h. absurd (omega (arith, e));
-    pass_0 = λ h. absurd (omega (arith, e));
-    pass_1 = λ h. absurd (omega (arith, e));
-    pass_2 = λ h. absurd (omega (arith, e));
-    ended = λ _. is;
-  }
-
-  -- with a refusal
-  pub refuses : (f : Refusal) → Ended (Evaluated.Refused f) w → d ≡ o → evaluate_verdict c ts s (length o) ≡ verdict_of f → Stands c ts s o left w d
-  refuses f e u v = ends e.over (record { answered = rw (e.answered, v); left = rw v u })
-
-  -- it goes on, in one of the passes
-  module _ (k : ℕ) (z : Sizes) (here : Cursor) (stride : ℕ) (is_stride : stride ≡ record_length (scheme_of (get_or s 2 0))) (more : k < gates c) where
-    goes : (pass calls : ℕ) → pass ≤ 2 → GoesTo pass k z here stride calls w → (pass ≡ 0 → Tried c s o left k z here.at d)
-        → (pass ≡ 1 → Checked c ts s o left k z here.at d) → (pass ≡ 2 → Written c ts s o left k z here.at calls d) → Stands c ts s o left w d
-    goes pass calls low g t_0 t_1 t_2 = record {
-      passes = omega (arith, g.is_pass);
-      more = λ _. rw g.is_k more;
-      strides = λ _. g.is_stride ∙ is_stride;
-      pass_0 = λ e. rw (g.is_k, g.is_z, g.is_here) (t_0 (sym g.is_pass ∙ e));
-      pass_1 = λ e. rw (g.is_k, g.is_z, g.is_here) (t_1 (sym g.is_pass ∙ e));
-      pass_2 = λ e. rw (g.is_k, g.is_z, g.is_here, g.is_calls) (t_2 (sym g.is_pass ∙ e));
-      ended = λ e. absurd (omega (arith, g.is_pass));
-    }
-
-    pub goes_0 : GoesTo 0 k z here stride 0 w → Tried c s o left k z here.at d → Stands c ts s o left w d
-    goes_0 g t = goes 0 0 (omega arith) g (λ _. t) (λ e. absurd (omega arith)) (λ e. absurd (omega arith))
-
-    goes_1 : GoesTo 1 k z here stride 0 w → Checked c ts s o left k z here.at d → Stands c ts s o left w d
-    goes_1 g t = goes 1 0 (omega arith) g (λ e. absurd (omega arith)) (λ _. t) (λ e. absurd (omega arith))
-
-    goes_2 : (calls : ℕ) → GoesTo 2 k z here stride calls w → Written c ts s o left k z here.at calls d → Stands c ts s o left w d
-    goes_2 calls g t = goes 2 calls (omega arith) g (λ e. absurd (omega arith)) (λ e. absurd (omega arith)) (λ _. t)
-
--- ---- evaluate's verdict where a gate has a fault
-by_gate : (c ts s : List ℕ) (room k i x : ℕ) → head_verdict c ≡ fine → gates_verdict c (inputs c) k ≡ fine → k < gates c
-    → record_verdict c (inputs c) k ≡ refused i x → evaluate_verdict c ts s room ≡ refused i x
-unfolding circuit_verdict ◌then◌
-by_gate c ts s room k i x head before h e =
-    rw (evaluate_verdict_law c ts s room, head, first_found (record_verdict c (inputs c)) k (gates c) i x before h e)
-
--- ---- and on an accepted circuit
-module _ (c ts s : List ℕ) (room : ℕ) (accepted : circuit_verdict c ≡ fine) where
-  by_rest : evaluate_verdict c ts s room ≡ rest_verdict c (inputs c) ts s (16 * (inputs c + gates c)) room
-  unfolding ◌then◌
-  by_rest = rw (evaluate_verdict_law c ts s room, accepted)
-
-  verdict_tokens : (length ts ≡ 16 * inputs c → ⊥) → evaluate_verdict c ts s room ≡ refused 11 (length ts)
-  unfolding rest_verdict tokens_verdict ◌then◌ refuse
-  verdict_tokens h = rw (by_rest, ne_eqb _ _ h)
-
-  module _ (l : length ts ≡ 16 * inputs c) where
-    verdict_material : (f : Refusal) → verdict_of f ≡ material_verdict (circuit_of c) s → evaluate_verdict c ts s room ≡ verdict_of f
-    unfolding rest_verdict tokens_verdict ◌then◌ refuse
-    verdict_material f h = rw (by_rest, eq-eqb _ _ l, ← h)
-
-    module _ (formed : fine ≡ material_verdict (circuit_of c) s) where
-      verdict_room : room < 16 * (inputs c + gates c) → evaluate_verdict c ts s room ≡ refused 19 (16 * (inputs c + gates c))
-      unfolding rest_verdict tokens_verdict room_verdict ◌then◌ refuse
-      verdict_room h = rw (by_rest, eq-eqb _ _ l, ← formed, lt-ltb _ _ h)
-
-      verdict_fine : 16 * (inputs c + gates c) ≤ room → evaluate_verdict c ts s room ≡ fine
-      unfolding rest_verdict tokens_verdict room_verdict ◌then◌ refuse
-      verdict_fine h = rw (by_rest, eq-eqb _ _ l, ← formed, le-ltb _ _ h)
-
--- what it tells that nothing refuses
-module _ (c ts s o : List ℕ) (z : Sizes) where
-  pub accepted_by : z ≡ sizes_of c → evaluate_verdict c ts s (length o) ≡ fine → Accepted c z
-  accepted_by is v = record { accepted = (then_fine _ _ (rw (evaluate_verdict_law c ts s (length o)) at v)).0; sizes = is }
-
-  pub wires : Accepted c z → evaluate_verdict c ts s (length o) ≡ fine → WiresStart c ts s (inputs c) (gates c) o
-  wires known v =
-      rw (is_n c z known, is_q c z known) at (evaluate_fine c ts s o v z known)
-
--- ---- the row record of gate k at its turn, and the answer to it
-module _ (c : List ℕ) (z : Sizes) (s : List ℕ) (known : Filed c z s) (k : ℕ) (h : k < gates c) (g : Gate) (is_g : g ≡ gate_at c k) (here : Cursor)
-    (rows : RowsRight c s k here.at) (u : Step) (is_u : step_of u ≡ pass_answer s here.at g.code (z.n + k + 1)) where
-  more : k < z.q
-  more = omega (arith, is_q c z known.circuit)
-
-  reading : Reading c s z.q k here
-  reading = record { within = omega (arith, more); no_fault = rows.no_fault; placed = rows.placed }
-
-  at_gate : step_of u ≡ row_answer c s k
-  at_gate =
-      gate_passed c z s k here.at (at_turn c z s known k here reading more) g is_g u is_u
-
-  row_past : (there : Cursor) → u ≡ Step.Next there → RowsRight c s (k + 1) there.at
-  row_past there e =
-      let next = turn_next c z s known k here reading more u at_gate there e in
-      record { no_fault = next.no_fault; placed = next.placed }
-
-  row_fault : (f : Refusal) → u ≡ Step.Fault f → verdict_of f ≡ records_verdict c s
-  row_fault f e = turn_fault c z s known k here reading more u at_gate f e
+pub stride_none : (s : List ℕ) (bytes : ℕ) → length s ≤ 2 → bytes ≡ record_length (scheme_of 0) → bytes ≡ stride s
+stride_none s bytes h e = e ∙ ap (λ (x : ℕ). record_length (scheme_of x)) (sym (get_or-eq_default s 0 h))
 
 -- ---- row_passed
 
-module _ (s : List ℕ) (at stride x due : ℕ) where
-  pub passed_free : x ≡ 0 → RowPassed s at stride x due at
-  passed_free e = record {
-    free = λ _. refl;
-    right = λ n. absurd (n e);
-    within = λ n. absurd (n e);
-    found = λ n. absurd (n e);
-    gone = λ n. absurd (n e);
-    near = omega arith;
-  }
+module _ (s : List ℕ) (bytes x due : ℕ) (here : Option Cursor) where
+  pub passed_lost : here ≡ None → None ≡ row_passed s bytes x due here
+  unfolding row_passed
+  passed_lost e = rw e
+
+  pub passed_free : x ≡ 0 → here ≡ row_passed s bytes x due here
+  passed_free e = by here
+    where
+      by : (h : Option Cursor) → h ≡ row_passed s bytes x due h
+      by None = unfold row_passed in refl
+      by (Some at) = unfold row_passed in rw (eq-eqb _ _ e)
+
+  module _ (at : Cursor) (is_at : here ≡ Some at) where
+    module _ (n : x ≡ 0 → ⊥) where
+      pub passed_short : length s < at.at + 4 → None ≡ row_passed s bytes x due here
+      unfolding row_passed
+      passed_short h = rw (is_at, ne_eqb _ _ n, lt-leb _ _ h)
+
+      -- whether its record is there, as it was read
+      module _ (l : at.at + 4 ≤ length s) (b : Bool) (is_b : b ≡ row_record_at s at.at due) where
+        pub passed_wrong : not b ≡ true → None ≡ row_passed s bytes x due here
+        unfolding row_passed
+        passed_wrong e = rw (is_at, ne_eqb _ _ n, le-leb _ _ l, ← is_b, not-true b e)
+
+        pub passed_right : not b ≡ false → (there : Cursor) → there.at ≡ at.at + bytes → Some there ≡ row_passed s bytes x due here
+        unfolding row_passed
+        passed_right e there is_there =
+            rw (is_at, ne_eqb _ _ n, le-leb _ _ l, ← is_b, not-false b e) (ap (λ (y : ℕ). Some (record { at = y })) is_there)
+
+pub ruleset passed_cases = (passed_lost, passed_free, passed_short, passed_wrong, passed_right)
+
+-- what a place past a row record tells of that before it
+record Came (s : List ℕ) (bytes x due : ℕ) (here : Option Cursor) (there : Cursor) : Type 0 where
+  before : Cursor
+  is_before : here ≡ Some before
+  free : x ≡ 0 → there ≡ before
+  found : (x ≡ 0 → ⊥) → row_record_at s before.at due ≡ true
+  gone : (x ≡ 0 → ⊥) → there.at ≡ before.at + bytes
+  near : there.at ≤ before.at + bytes
+
+not_none : {A : Type 0} {at : Cursor} → None ≡ Some at → A
+not_none e = absurd (let z : ◌≡◌ {A = ℕ} 0 1 = cc in omega arith)
+
+came : (s : List ℕ) (bytes x due : ℕ) (here : Option Cursor) (there : Cursor) → row_passed s bytes x due here ≡ Some there → Came s bytes x due here there
+unfolding row_passed
+came s bytes x due None there e = not_none e
+came s bytes x due (Some before) there e = charged (eqb x 0) refl (leb (before.at + 4) (length s)) (row_record_at s before.at due) refl e
+  where
+    charged : (b : Bool) → eqb x 0 ≡ b → (l r : Bool) → row_record_at s before.at due ≡ r
+        → cond b (Some before) (cond (l && r) (Some (record { at = before.at + bytes })) None) ≡ Some there → Came s bytes x due (Some before) there
+    charged true is_b l r is_r h =
+        let same : there ≡ before = cc in
+        let none : x ≡ 0 = eqb-true _ _ is_b in
+        record {
+          before = before;
+          is_before = refl;
+          free = λ _. same;
+          found = λ n. absurd (n none);
+          gone = λ n. absurd (n none);
+          near = rw same (omega arith);
+        }
+    charged false is_b true true is_r h =
+        let past : there ≡ record { at = before.at + bytes } = cc in
+        let some : x ≡ 0 → ⊥ = eqb-false _ _ is_b in
+        record {
+          before = before;
+          is_before = refl;
+          free = λ e. absurd (some e);
+          found = λ _. is_r;
+          gone = λ _. rw past;
+          near = rw past (omega arith);
+        }
+    charged false is_b true false is_r h = not_none h
+    charged false is_b false r is_r h = not_none h
+
+-- ---- where the row record of gate k is due, as it was seen
+
+module _ (c s : List ℕ) where
+  seen_next : (k : ℕ) → rows_seen c s (k + 1) ≡ row_passed s (stride s) (charge (kind_of (gate_at c k).code)) (inputs c + k + 1) (rows_seen c s k)
+  unfolding rows_seen
+  seen_next k = rw (add-one k)
+
+  -- no further than k row records of four rows reach
+  seen_near : (k : ℕ) (at : Cursor) → rows_seen c s k ≡ Some at → at.at ≤ 9 + 68 * k
+  unfolding rows_seen
+  seen_near zero at e = let first : at ≡ record { at = 9 } = cc in rw first (omega arith)
+  seen_near (suc k) at e =
+      let go = came s (stride s) (charge (kind_of (gate_at c k).code)) (inputs c + k + 1) (rows_seen c s k) at e in
+      omega (arith, go.near, seen_near k go.before go.is_before, record_high (get_or s 2 0))
+
+  -- once the circuit, and the material's header and length, are known to be right, the row records before it are right too
+  module _ (z : Sizes) (known : Filed c z s) where
+    module _ (k : ℕ) (more : k < z.q) (at : Cursor) (go : Came s (stride s) (charge (kind_of (gate_at c k).code)) (inputs c + k + 1) (rows_seen c s k) at)
+        (reading : Reading c s z.q k go.before) where
+      next : step_of (Ok at) ≡ pass_answer s go.before.at (gate_at c k).code (z.n + k + 1) → Reading c s z.q (suc k) at
+      next is =
+          let u = gate_passed c z s k go.before.at (at_turn c z s known k go.before reading more) (gate_at c k) refl (Ok at) is in
+          rw (← add-one) (turn_next c z s known k go.before reading more (Ok at) u at refl)
+
+      reading_next : Reading c s z.q (suc k) at
+      reading_next = by (eqb (charge (kind_of (gate_at c k).code)) 0) refl
+        where
+          by : (b : Bool) → eqb (charge (kind_of (gate_at c k).code)) 0 ≡ b → Reading c s z.q (suc k) at
+          by true is_b =
+              let none : charge (kind_of (gate_at c k).code) ≡ 0 = eqb-true _ _ is_b in
+              next (rw (go.free none) (answer_free s go.before.at (gate_at c k).code (z.n + k + 1) none))
+          by false is_b =
+              let some : charge (kind_of (gate_at c k).code) ≡ 0 → ⊥ = eqb-false _ _ is_b in
+              let found : row_record_at s go.before.at (z.n + k + 1) ≡ true = rw (is_n c z known.circuit) (go.found some) in
+              next (answer_right s go.before.at (gate_at c k).code (z.n + k + 1) some found at.at (go.gone some))
+
+    seen_right : (k : ℕ) → k ≤ z.q → (at : Cursor) → rows_seen c s k ≡ Some at → Reading c s z.q k at
+    unfolding rows_seen
+    seen_right zero h at e = let first : at ≡ record { at = 9 } = cc in records_start c z s known at (rw first)
+    seen_right (suc k) h at e =
+        let go = came s (stride s) (charge (kind_of (gate_at c k).code)) (inputs c + k + 1) (rows_seen c s k) at e in
+        reading_next k (omega arith) at go (seen_right k (omega arith) go.before go.is_before)
+
+-- ---- the records of a list within the limits
+module _ (z : Sizes) (gs : List Gate) (start : ListStart z gs) where
+  c : List ℕ
+  c = circuit_bytes z.n z.m gs
+
+  n_made : inputs (circuit_bytes z.n z.m gs) ≡ z.n
+  n_made = inputs_made z.n z.m gs start.n_fits start.m_fits start.few
+
+  q_made : gates (circuit_bytes z.n z.m gs) ≡ z.q
+  q_made = gates_made z.n z.m gs start.n_fits start.m_fits start.few ∙ sym start.is_q
+
+  m_made : outputs (circuit_bytes z.n z.m gs) ≡ z.m
+  m_made = outputs_made z.n z.m gs start.n_fits start.m_fits start.few
+
+  head_fine : head_verdict (circuit_bytes z.n z.m gs) ≡ fine
+  unfolding refuse
+  head_fine = head_made z.n z.m gs start.n_fits start.m_fits start.few ∙ rw (← start.is_q, start.hold)
+
+  held : SizesHold z.n z.m z.q
+  held = rw (n_made, m_made, q_made) at (header_holds (circuit_bytes z.n z.m gs) head_fine).sizes
+
+  pub list_some : 1 ≤ z.q
+  list_some = held.q_low
+
+  pub list_wires : z.n + z.q ≤ 65535
+  list_wires = held.sum
+
+  -- gate k of the circuit, as it was handed in
+  module _ (k : ℕ) (more : k < z.q) (g : Gate) (is_g : g ≡ get_or gs k no_gate) (fits : (g.a.0 ≤ 65535) × (g.b.0 ≤ 65535)) where
+    list_gate : g ≡ gate_at (circuit_bytes z.n z.m gs) k
+    list_gate =
+        let own : GateFits g = record { a_fits = fits.0; b_fits = fits.1 } in
+        is_g ∙ sym (gate_made z.n z.m gs k (omega (arith, start.is_q)) (rw is_g at own))
+
+    -- its verdict is that of the record
+    at_record : record_verdict (circuit_bytes z.n z.m gs) (inputs (circuit_bytes z.n z.m gs)) k ≡ gate_verdict (z.n + k + 1) g
+    unfolding record_verdict refuse ◌then◌
+    at_record = rw (mark_made z.n z.m gs k (omega (arith, start.is_q)), ← list_gate, n_made)
+
+-- ---- try_gates
+
+-- k gates have no fault, so many of them are charged, and this was seen of the row records
+pub record Trying (c s : List ℕ) (k charged : ℕ) (last next : Option Cursor) : Type 0 where
+  pub no_fault : gates_verdict c (inputs c) k ≡ fine
+  pub counted : charged ≡ charges (tabulate k (gate_at c))
+  pub is_last : last ≡ rows_seen c s (k - 1)
+  pub is_next : next ≡ rows_seen c s k
+
+pub try_start : (c s : List ℕ) (first : Cursor) → first.at ≡ 9 → Trying c s 0 0 (Some first) (Some first)
+unfolding first_of charges rows_seen
+try_start c s first e =
+    let same : ◌≡◌ {A = Option Cursor} (Some first) (Some (record { at = 9 })) = ap (λ (x : ℕ). Some (record { at = x })) e in
+    record { no_fault = refl; counted = refl; is_last = same; is_next = same }
+
+module _ (z : Sizes) (gs : List Gate) (start : ListStart z gs) (s : List ℕ) (k charged : ℕ) (last next : Option Cursor)
+    (inv : Trying (circuit_bytes z.n z.m gs) s k charged last next) where
+  pub try_end : k ≤ length gs → length gs ≤ k → yes (record { charged = charged; last = last }) ≡ tried_answer (circuit_bytes z.n z.m gs) s z.q
+  try_end h l =
+      let all : k ≡ z.q = omega (arith, start.is_q) in
+      rw (← all, inv.no_fault, inv.counted, inv.is_last)
+
+  pub try_own : k < length gs → Fits w16 (z.n + k + 1)
+  try_own h = omega (arith, list_wires z gs start, start.is_q)
+
+  module _ (more : k < length gs) (bytes : ℕ) (is_bytes : bytes ≡ stride s) where
+    pub try_low : 4 ≤ bytes
+    try_low = omega (arith, is_bytes, record_low (get_or s 2 0))
+
+    pub try_fits : CursorFits bytes next
+    try_fits at e =
+        omega (arith, seen_near (circuit_bytes z.n z.m gs) s k at (sym inv.is_next ∙ e), start.few, is_bytes, record_high (get_or s 2 0))
+
+    -- what was found at the gate
+    module _ (g : Gate) (is_g : g ≡ get_or gs k no_gate) (fits : (g.a.0 ≤ 65535) × (g.b.0 ≤ 65535)) (r : Result ℕ Refusal)
+        (is-r : answer_of r ≡ Read.gate_answer (z.n + k + 1) g) where
+      few : k < z.q
+      few = rw start.is_q more
+
+      fine_gate : (x : ℕ) → r ≡ Ok x → Given (gate_verdict (z.n + k + 1) g) x (charge (kind_of g.code))
+      fine_gate x e = yes_given (gate_verdict (z.n + k + 1) g) x (charge (kind_of g.code)) (rw e at is-r)
+
+      at_most_one : (x : ℕ) → r ≡ Ok x → x ≤ 1
+      at_most_one x e = rw (fine_gate x e).is_result (charge_le (kind_of g.code))
+
+      pub try_counts : (x : ℕ) → r ≡ Ok x → Fits w64 (charged + x)
+      try_counts x e =
+          omega (
+            arith,
+            at_most_one x e,
+            inv.counted,
+            charges_le (tabulate k (gate_at (circuit_bytes z.n z.m gs))),
+            tabulate_length k (gate_at (circuit_bytes z.n z.m gs)),
+            start.few,
+          )
+
+      pub try_turn : (x : ℕ) → r ≡ Ok x → (there : Option Cursor) → there ≡ row_passed s bytes x (z.n + k + 1) next
+          → Trying (circuit_bytes z.n z.m gs) s (k + 1) (charged + x) next there
+      try_turn x e there is_there =
+          let v = fine_gate x e in
+          let gate : g ≡ gate_at (circuit_bytes z.n z.m gs) k = list_gate z gs start k few g is_g fits in
+          record {
+            no_fault = first_next _ k inv.no_fault (at_record z gs start k few g is_g fits ∙ v.is_fine);
+            counted = rw (add-one, tabulate_snoc k (gate_at (circuit_bytes z.n z.m gs)), charges_snoc, ← gate, ← inv.counted, ← v.is_result);
+            is_last = let same : k + 1 - 1 ≡ k = omega arith in rw same inv.is_next;
+            is_next = rw (seen_next (circuit_bytes z.n z.m gs) s k, ← gate, ← v.is_result, n_made z gs start, ← inv.is_next, ← is_bytes) is_there;
+          }
+
+      pub try_fault : (f : Refusal) → r ≡ Err f → no (verdict_of f) ≡ tried_answer (circuit_bytes z.n z.m gs) s z.q
+      try_fault f e = go (no_turned _ _ _ (rw e at is-r))
+        where
+          go : Turned (gate_verdict (z.n + k + 1) g) (verdict_of f) → no (verdict_of f) ≡ tried_answer (circuit_bytes z.n z.m gs) s z.q
+          go v =
+              let is : record_verdict (circuit_bytes z.n z.m gs) (inputs (circuit_bytes z.n z.m gs)) k ≡ refused v.number v.place =
+              at_record z gs start k few g is_g fits ∙ v.is_v in
+              rw (first_found (record_verdict (circuit_bytes z.n z.m gs) (inputs (circuit_bytes z.n z.m gs))) k z.q v.number v.place inv.no_fault few is, v.is_w)
+
+pub ruleset try_cases = (try_start, try_end, try_own, try_low, try_fits, try_counts, try_turn, try_fault)
+
+-- ---- start_of
+module _ (q : ℕ) (last : Option Cursor) where
+  pub starts_first : last ≡ None → (here : Cursor) → here.at ≡ 9 → StartsAt q last 0 here
+  starts_first e here at = record { at_last = λ x f. not_none (sym e ∙ f); at_first = λ _. (refl, at) }
+
+  pub starts_last : (here : Cursor) → last ≡ Some here → (k : ℕ) → k ≡ q - 1 → StartsAt q last k here
+  starts_last here e k is_k = record { at_last = λ x f. (let same : here ≡ x = cc in (is_k, same)); at_first = λ f. not_none (sym f ∙ e) }
+
+pub ruleset start_cases = (starts_first, starts_last)
+
+-- ---- pass_row
+module _ (s : List ℕ) (at bytes code due : ℕ) (room : RowRoom s at bytes code) (x : ℕ) (is_x : x ≡ charge (kind_of code)) where
+  pub pass_free : x ≡ 0 → yes at ≡ pass_answer s at code due
+  pass_free e = answer_free s at code due (sym is_x ∙ e)
 
   module _ (n : x ≡ 0 → ⊥) where
-    -- no record is there
-    passed_not : (at + 4 ≤ length s → row_record_at s at due ≡ false) → RowPassed s at stride x due 0
-    passed_not h = record {
-      free = λ e. absurd (n e);
-      right = λ _ l e. neither (h l) e;
-      within = λ _ z. absurd (z refl);
-      found = λ _ z. absurd (z refl);
-      gone = λ _ z. absurd (z refl);
-      near = omega arith;
-    }
+    charged : charge (kind_of code) ≡ 0 → ⊥
+    charged e = n (is_x ∙ e)
 
-    pub passed_short : length s < at + 4 → RowPassed s at stride x due 0
-    passed_short h = passed_not (λ l. absurd (omega arith))
+    whole : at + bytes + 2 ≤ length s
+    whole = omega (arith, rw (one_charged (kind_of code) charged).1 at room.room)
+
+    pub pass_asks : at + 4 ≤ length s
+    pass_asks = omega (arith, whole, room.is_bytes, record_low (get_or s 2 0))
+
+    pub pass_fits : length s < 2 ^ 64 → at + bytes < 18446744073709551616
+    pass_fits l = omega (arith, whole)
 
     -- whether its record is there, as it was read
     module _ (b : Bool) (is_b : b ≡ row_record_at s at due) where
-      pub passed_wrong : b ≡ false → RowPassed s at stride x due 0
-      passed_wrong e = passed_not (λ _. sym is_b ∙ e)
+      pub pass_wrong : not b ≡ true → no (refused 17 due) ≡ pass_answer s at code due
+      pass_wrong e = answer_wrong s at code due charged (sym is_b ∙ not-true b e)
 
-      pub passed_right : at + 4 ≤ length s → b ≡ true → (there : ℕ) → there ≡ at + stride → RowPassed s at stride x due there
-      passed_right l e there is_there = record {
-        free = λ f. absurd (n f);
-        right = λ _ _ _. is_there;
-        within = λ _ _. l;
-        found = λ _ _. sym is_b ∙ e;
-        gone = λ _ _. is_there;
-        near = omega arith;
-      }
+      pub pass_right : not b ≡ false → (there : ℕ) → there ≡ at + bytes → yes there ≡ pass_answer s at code due
+      pass_right e there is_there = answer_right s at code due charged (sym is_b ∙ not-false b e) there (is_there ∙ rw room.is_bytes)
 
-pub ruleset passed_cases = (passed_free, passed_short, passed_wrong, passed_right)
+pub ruleset pass_cases = (pass_free, pass_asks, pass_fits, pass_wrong, pass_right)
 
--- ---- where the next row record is due, past that of gate k
+-- ---- check_rows
+module _ (z : Sizes) (gs : List Gate) (start : ListStart z gs) (s : List ℕ) (last : Option Cursor) (rows : RowsSeen (circuit_bytes z.n z.m gs) z s last) where
+  pub rows_start : (k : ℕ) (here : Cursor) → StartsAt z.q last k here → Reading (circuit_bytes z.n z.m gs) s z.q k here
+  rows_start k here at = by last refl
+    where
+      by : (l : Option Cursor) → last ≡ l → Reading (circuit_bytes z.n z.m gs) s z.q k here
+      by None e =
+          let first = at.at_first e in
+          rw first.0 (records_start (circuit_bytes z.n z.m gs) z s rows.known here first.1)
+      by (Some x) e =
+          let first = at.at_last x e in
+          rw (first.0, first.1)
+          (seen_right (circuit_bytes z.n z.m gs) s z rows.known (z.q - 1) (omega arith) x (sym rows.is_last ∙ e))
 
--- place 0 has another mark than a row record
-header_mark_law : (z : Sizes) (s : List ℕ) → file_verdict z s ≡ fine → (mark_at s 0 0x47 0x48 || hashed s) ≡ true
-unfolding file_verdict
-header_mark_law z s e =
-    let a = then_fine _ _ e in
-    let b = then_fine _ _ a.0 in
-    let d = then_fine _ _ b.0 in
-    let f = then_fine _ _ d.0 in
-    not-false _ (refuse_fine _ _ _ f.1)
+  pub rows_low : (k : ℕ) (here : Cursor) → StartsAt z.q last k here → k ≤ z.q
+  rows_low k here at = (rows_start k here at).within
 
-not_marked : (b : Bool) → ((b && false) || (b && false)) ≡ true → ⊥
-not_marked true e = let z : ◌≡◌ {A = ℕ} 0 1 = cc in omega arith
-not_marked false e = let z : ◌≡◌ {A = ℕ} 0 1 = cc in omega arith
+  module _ (k : ℕ) (here : Cursor) (inv : Reading (circuit_bytes z.n z.m gs) s z.q k here) where
+    pub rows_end : z.q ≤ k → yes here.at ≡ records_answer (circuit_bytes z.n z.m gs) s
+    rows_end h = records_end (circuit_bytes z.n z.m gs) z s rows.known k here inv h
 
-no_row : (s : List ℕ) (due : ℕ) → (mark_at s 0 0x47 0x48 || hashed s) ≡ true → row_record_at s 0 due ≡ true → ⊥
-unfolding row_record_at mark_at hashed
-no_row s due a b =
-    let mark = (and_both (eqb (get_or s 0 0) 0x47 && eqb (get_or s 1 0) 0x54) (eqb (be16 s 2) due) b).0 in
-    let y = eqb-true (get_or s 1 0) 0x54 (and_both (eqb (get_or s 0 0) 0x47) (eqb (get_or s 1 0) 0x54) mark).1 in
-    not_marked (eqb (get_or s 0 0) 0x47) (rw y at a)
+    pub rows_own : k < z.q → Fits w16 (z.n + k + 1)
+    rows_own h = omega (arith, list_wires z gs start)
 
-module _ (c s : List ℕ) (k : ℕ) (h : k < gates c) (g : Gate) (is_g : g ≡ gate_at c k) (here : Cursor) (before : Guessed c s k here.at) where
-  guess_free : charge (kind_of g.code) ≡ 0 → Guessed c s (k + 1) here.at
-  guess_free e = record {
-    rows = λ n known.
-        row_past c (sizes_of c) s known k h g is_g here (before.rows n known) (Step.Next here)
-        (answer_free s here.at g.code ((sizes_of c).n + k + 1) e) here refl;
-  }
+    module _ (more : k < z.q) (g : Gate) (is_g : g ≡ get_or gs k no_gate) (fits : (g.a.0 ≤ 65535) × (g.b.0 ≤ 65535)) where
+      pub rows_room : (bytes : ℕ) → bytes ≡ stride s → RowRoom s here.at bytes g.code
+      rows_room bytes is_bytes =
+          let file = filed_holds (circuit_bytes z.n z.m gs) z s rows.known in
+          let gate : g ≡ gate_at (circuit_bytes z.n z.m gs) k = list_gate z gs start k more g is_g fits in
+          let h : k < gates (circuit_bytes z.n z.m gs) = omega (arith, q_made z gs start) in
+          record {
+            is_bytes = is_bytes;
+            room = rw (is_bytes, gate, inv.placed) (omega (arith, row_room (circuit_bytes z.n z.m gs) s file.whole k h));
+          }
 
-  module _ (charged : charge (kind_of g.code) ≡ 0 → ⊥) (due : ℕ) (is_due : due ≡ inputs c + k + 1) (there : Cursor)
-      (found : (there.at ≡ 0 → ⊥) → row_record_at s here.at due ≡ true)
-      (gone : (there.at ≡ 0 → ⊥) → there.at ≡ here.at + record_length (scheme_of (get_or s 2 0))) where
-    module _ (n : there.at ≡ 0 → ⊥) (known : Filed c (sizes_of c) s) where
-      -- it was right so far
-      some : here.at ≡ 0 → ⊥
-      some z = no_row s due (header_mark_law (sizes_of c) s known.filed) (rw z at (found n))
+      -- the answer to its record
+      module _ (r : Result Cursor Refusal) (is-r : step_of r ≡ pass_answer s here.at g.code (z.n + k + 1)) where
+        at_gate : step_of r ≡ row_answer (circuit_bytes z.n z.m gs) s k
+        at_gate =
+            gate_passed (circuit_bytes z.n z.m gs) z s k here.at (at_turn (circuit_bytes z.n z.m gs) z s rows.known k here inv more) g
+            (list_gate z gs start k more g is_g fits) r is-r
 
-      so_far : RowsRight c s k here.at
-      so_far = before.rows some known
+        pub rows_turn : (there : Cursor) → r ≡ Ok there → Reading (circuit_bytes z.n z.m gs) s z.q (k + 1) there
+        rows_turn there e = turn_next (circuit_bytes z.n z.m gs) z s rows.known k here inv more r at_gate there e
 
-      right : row_record_at s here.at ((sizes_of c).n + k + 1) ≡ true
-      right = rw (is_n c (sizes_of c) known.circuit, ← is_due) (found n)
+        pub rows_fault : (f : Refusal) → r ≡ Err f → no (verdict_of f) ≡ records_answer (circuit_bytes z.n z.m gs) s
+        rows_fault f e = records_fault (circuit_bytes z.n z.m gs) z s rows.known k here inv more r at_gate f e
 
-      gone_past : RowsRight c s (k + 1) there.at
-      gone_past =
-          row_past c (sizes_of c) s known k h g is_g here so_far (Step.Next there)
-          (answer_right s here.at g.code ((sizes_of c).n + k + 1) charged right there.at (omega (arith, gone n))) there refl
+pub ruleset rows_cases = (list_some, rows_start, rows_low, rows_end, rows_own, rows_room, rows_turn, rows_fault)
 
-    guess_charged : Guessed c s (k + 1) there.at
-    guess_charged = record { rows = λ n known. gone_past n known }
+-- ---- check_list_material
+pub rows_known : (z : Sizes) (gs : List Gate) (s : List ℕ) (last : Option Cursor) → ListSeen (circuit_bytes z.n z.m gs) z s last → (r : Result Unit Refusal) → ran_of r ≡ file_verdict z s
+    → r ≡ Ok tt → RowsSeen (circuit_bytes z.n z.m gs) z s last
+rows_known z gs s last seen r is-r e = record { known = filed (circuit_bytes z.n z.m gs) z s seen.known r is-r e; is_last = seen.is_last }
 
--- ---- gate_tried
+-- ---- check_list
+module _ (z : Sizes) (gs : List Gate) (start : ListStart z gs) (ts s : List ℕ) (room : ℕ) (t : Result Tried Refusal)
+    (is_t : answer_of t ≡ tried_answer (circuit_bytes z.n z.m gs) s z.q) where
+  by_gates : circuit_verdict (circuit_bytes z.n z.m gs) ≡ gates_verdict (circuit_bytes z.n z.m gs) (inputs (circuit_bytes z.n z.m gs)) z.q
+  unfolding circuit_verdict outputs_verdict ◌then◌
+  by_gates = rw (head_fine z gs start, not_named z.n z.m gs, q_made z gs start) (then_nothing _)
 
-sizes_are : (z : Sizes) (a b e f : ℕ) → z.n ≡ a → z.m ≡ b → z.q ≡ e → z.p ≡ f → z ≡ record { n = a; m = b; q = e; p = f }
-sizes_are z a b e f i j k l = rw (← i, ← j, ← k, ← l)
+  pub list_fault : (f : Refusal) → t ≡ Err f → verdict_of f ≡ evaluate_verdict (circuit_bytes z.n z.m gs) ts s room
+  list_fault f e = rw evaluate_verdict_law (then_refused _ _ _ _ (no_given _ _ _ (rw e at is_t) ∙ sym by_gates))
 
--- all gates were tried: the circuit is accepted
-all_tried : (c s o d : List ℕ) (left k : ℕ) (z : Sizes) (at : ℕ) → Tried c s o left k z at d → z.q ≤ k → Accepted c z
-unfolding circuit_verdict outputs_verdict ◌then◌ sizes_of circuit_of
-all_tried c s o d left k z at t h =
-    let e : k ≡ gates c = omega (arith, t.within, t.is_q) in
-    record {
-      accepted = rw (t.head, t.by_last_wires) (ap (λ (v : Verdict). v then fine) (rw e at t.no_fault));
-      sizes = sizes_are z _ _ _ _ t.is_n t.is_m t.is_q (rw e at t.counted);
+  module _ (tried : Tried) (e : t ≡ Ok tried) where
+    abbrev counted : Sizes
+    counted = record { n = z.n; m = z.m; q = z.q; p = tried.charged }
+
+    found : Given (gates_verdict (circuit_bytes z.n z.m gs) (inputs (circuit_bytes z.n z.m gs)) z.q) tried
+        (record { charged = charges (tabulate z.q (gate_at (circuit_bytes z.n z.m gs))); last = rows_seen (circuit_bytes z.n z.m gs) s (z.q - 1) })
+    found = yes_given _ _ _ (rw e at is_t)
+
+    known : Accepted (circuit_bytes z.n z.m gs) counted
+    unfolding sizes_of circuit_of
+    known = record {
+      accepted = by_gates ∙ found.is_fine;
+      sizes = rw (n_made z gs start, m_made z gs start, q_made z gs start, found.is_result);
     }
 
-module _ (ts s : List ℕ) (k : ℕ) (z : Sizes) (here there : Cursor) (stride : ℕ) (is_stride : stride ≡ record_length (scheme_of (get_or s 2 0))) (r : Walk) where
-  pub tried_next : k + 1 < z.q → GoesTo 0 (k + 1) z there stride 0 r → TriedLeads ts s k z here.at there.at r
-  tried_next h g = record {
-    kept = λ _. ap (λ (x : Cursor). x.at) g.is_here;
-    starts = λ _ e. absurd (omega (arith, g.is_pass));
-    leads = λ c o d left _ t. goes_0 c ts s o left r d (k + 1) z there stride is_stride (omega (arith, t.is_q)) g t;
-  }
+    pub list_counted : ListStart counted gs
+    list_counted = record { n_fits = start.n_fits; m_fits = start.m_fits; is_q = start.is_q; few = start.few; hold = start.hold }
 
-  module _ (last : z.q ≤ k + 1) where
-    pub tried_tokens : (length ts ≡ 16 * z.n → ⊥) → Ended (Evaluated.Refused (TokensLength (length ts))) r → TriedLeads ts s k z here.at there.at r
-    tried_tokens h e = record {
-      kept = λ p. absurd (omega (arith, e.over));
-      starts = λ _ p. absurd (omega (arith, e.over));
-      leads = λ c o d left _ t.
-          let known = all_tried c s o d left (k + 1) z there.at t last in
-          refuses c ts s o left r d (TokensLength (length ts)) e t.untouched
-          (verdict_tokens c ts s (length o) known.accepted (rw t.is_n at h));
-    }
+    pub list_seen : ListSeen (circuit_bytes z.n z.m gs) counted s tried.last
+    list_seen = record { known = known; is_last = ap (λ (x : Tried). x.last) found.is_result }
 
-    -- the header and the length of the material as they were tried
-    module _ (l : length ts ≡ 16 * z.n) (u : Ran) (is_u : ran_of u ≡ file_verdict z s) where
-      pub tried_file : (f : Refusal) → u ≡ Ran.Refused f → Ended (Evaluated.Refused f) r → TriedLeads ts s k z here.at there.at r
-      tried_file f i e = record {
-        kept = λ p. absurd (omega (arith, e.over));
-        starts = λ _ p. absurd (omega (arith, e.over));
-        leads = λ c o d left _ t.
-            let known = all_tried c s o d left (k + 1) z there.at t last in
-            refuses c ts s o left r d f e t.untouched
-            (verdict_material c ts s (length o) known.accepted (rw t.is_n at l) f (material_file c z s known u is_u f i));
-      }
+    pub list_tried : (v : Verdict) → v ≡ rest_verdict (circuit_bytes z.n z.m gs) z.n ts s (16 * (z.n + z.q)) room
+        → v ≡ evaluate_verdict (circuit_bytes z.n z.m gs) ts s room
+    unfolding sizes_of
+    list_tried v is_v =
+        is_v
+        ∙ left_to_try (circuit_bytes z.n z.m gs) counted known (λ x. rest_verdict (circuit_bytes z.n z.m gs) x.n ts s (16 * (x.n + x.q)) room)
+        ∙ sym (evaluate_verdict_law (circuit_bytes z.n z.m gs) ts s room)
 
-      module _ (i : u ≡ Ran.Done) where
-        -- to a gate whose row record is due at an index, those before it right
-        to_record : (j : ℕ) (at : Cursor) → GoesTo 1 j z at stride 0 r → j ≤ k → ((here.at ≡ 0 → ⊥) → j ≡ k) → ((c : List ℕ) → Guessed c s k here.at → Filed c z s → RowsRight c s j at.at)
-            → TriedLeads ts s k z here.at there.at r
-        to_record j at g low start right = record {
-          kept = λ p. absurd (omega (arith, g.is_pass));
-          starts = λ n _. g.is_k ∙ start n;
-          leads = λ c o d left before t.
-              let known = filed c z s (all_tried c s o d left (k + 1) z there.at t last) u is_u i in
-              goes_1 c ts s o left r d j z at stride is_stride (omega (arith, t.within)) g
-              (record {
-                known = known;
-                tokens = rw t.is_n at l;
-                within = omega (arith, t.within);
-                rows = right c before known;
-                untouched = t.untouched;
-                turns = omega (arith, t.turns, t.is_q, t.within, last);
-              });
-        }
+pub ruleset list_cases = (list_fault, list_counted, list_seen)
 
-        -- the first, or the last
-        pub tried_first : here.at ≡ 0 → (first : Cursor) → first.at ≡ 9 → GoesTo 1 0 z first stride 0 r → TriedLeads ts s k z here.at there.at r
-        tried_first none first at g =
-            to_record 0 first g (omega arith) (λ n. absurd (n none)) (λ c _ _. (record { no_fault = unfold first_of in refl; placed = at ∙ sym (row_first c s) }))
+-- ---- write_list
+module _ (z : Sizes) (gs : List Gate) (start : ListStart z gs) (s o : List ℕ) (walk : WalkStart (circuit_bytes z.n z.m gs) s z.n z.q o) (k at calls : ℕ) (d : List ℕ)
+    (inv : Walking (circuit_bytes z.n z.m gs) s z.n z.q o k at calls d) where
+  pub write_end : length gs ≤ k → WalkedIs (circuit_bytes z.n z.m gs) s z.n o calls d
+  write_end l = walk_end (circuit_bytes z.n z.m gs) s z.n z.q o walk k at calls d inv (omega (arith, start.is_q))
 
-        pub tried_last : (here.at ≡ 0 → ⊥) → GoesTo 1 k z here stride 0 r → TriedLeads ts s k z here.at there.at r
-        tried_last n g = to_record k here g (omega arith) (λ _. refl) (λ c before known. before.rows n (rw known.circuit.sizes at known))
+  module _ (more : k < length gs) (g : Gate) (is_g : g ≡ get_or gs k no_gate) (fits : (g.a.0 ≤ 65535) × (g.b.0 ≤ 65535)) where
+    few_gates : k < z.q
+    few_gates = rw start.is_q more
 
-pub ruleset tried_cases = (tried_next, tried_tokens, tried_file, tried_first, tried_last)
+    gate : g ≡ gate_at (circuit_bytes z.n z.m gs) k
+    gate = list_gate z gs start k few_gates g is_g fits
 
--- ---- try_gate: what was found at the gate
-module _ (ts s : List ℕ) (w : Walk) (g : Gate) (found : GateRead) (is_found : gate_of found ≡ Read.gate_answer (w.z.n + w.k + 1) g) where
-  -- its verdict is that of the record
-  at_record : (c : List ℕ) → GateIs c w.k g → w.z.n ≡ inputs c → record_verdict c (inputs c) w.k ≡ gate_verdict (w.z.n + w.k + 1) g
-  unfolding record_verdict refuse ◌then◌
-  at_record c is e = rw (is.mark, ← is.is_g, e)
+    pub write_start : TokenStart (get_or s 2 0) z.n k g s at d
+    write_start = walk_token (circuit_bytes z.n z.m gs) s z.n z.q o walk k at calls d inv few_gates g gate
 
-  fine_gate : (x : ℕ) → found ≡ GateRead.Fine x → Given (gate_verdict (w.z.n + w.k + 1) g) x (charge (kind_of g.code))
-  fine_gate x e = yes_given (gate_verdict (w.z.n + w.k + 1) g) x (charge (kind_of g.code)) (rw e at is_found)
+    pub write_turn : (next calls' : ℕ) (d' : List ℕ) → OpenedTo (get_or s 2 0) z.n k g s at calls d next calls' d'
+        → Walking (circuit_bytes z.n z.m gs) s z.n z.q o (k + 1) next calls' d'
+    write_turn next calls' d' step = walk_stepped (circuit_bytes z.n z.m gs) s z.n z.q o walk k at calls d inv few_gates g gate next calls' d' step
 
-  at_most_one : (x : ℕ) → found ≡ GateRead.Fine x → x ≤ 1
-  at_most_one x e = rw (fine_gate x e).is_result (charge_le (kind_of g.code))
+pub ruleset write_cases = (walk_scheme, walk_start, walk_few, write_end, write_start, write_turn)
 
-  -- the count with its charge
-  abbrev counted : ℕ → Sizes
-  counted x = record { n = w.z.n; m = w.z.m; q = w.z.q; p = w.z.p + x }
+-- ---- walk_gates
+module _ (n m : ℕ) (gs : List Gate) (ts s o : List ℕ) where
+  turned_down : (i x : ℕ) → refused i x ≡ evaluate_gates_verdict n m gs ts s (length o) → EvaluateGatesIs n m gs ts s o (no (refused i x)) o
+  turned_down i x e = record { answered = rw (← e); left = rw (← e) }
 
-  pub try_counts : Tries s w → (x : ℕ) → found ≡ GateRead.Fine x → Fits w64 (w.z.p + x)
-  try_counts asked x e = let few = asked.few in omega (arith, at_most_one x e, few.charged_few, few.more, few.wires)
+  -- with no more than 65,535 records the verdict is evaluate's
+  by_bytes : length gs ≤ 65535 → evaluate_verdict (circuit_bytes n m gs) ts s (length o) ≡ evaluate_gates_verdict n m gs ts s (length o)
+  unfolding evaluate_gates_verdict refuse ◌then◌
+  by_bytes h = rw (le-ltb _ _ h)
 
-  pub try_low : Tries s w → 4 ≤ w.stride
-  try_low asked = omega (arith, asked.is_stride, record_low (get_or s 2 0))
-
-  pub try_fits : Tries s w → w.here.at + w.stride < 18446744073709551616
-  try_fits asked = omega (arith, asked.near, asked.few.more, asked.few.wires, asked.is_stride, record_high (get_or s 2 0))
-
-  pub try_few : Tries s w → (x : ℕ) → found ≡ GateRead.Fine x → Few w.k (counted x) (w.k + 1)
-  try_few asked x e = record {
-    more = asked.few.more;
-    wires = asked.few.wires;
-    outputs_few = asked.few.outputs_few;
-    charged_few = omega (arith, at_most_one x e, asked.few.charged_few);
-  }
-
-  -- where the next row record is due then
-  module _ (x : ℕ) (e : found ≡ GateRead.Fine x) (there : Cursor) (passed : RowPassed s w.here.at w.stride x (w.z.n + w.k + 1) there.at)
-      (is_stride : w.stride ≡ record_length (scheme_of (get_or s 2 0))) where
-    guess : (c : List ℕ) → w.z.n ≡ inputs c → w.k < gates c → GateIs c w.k g → Guessed c s w.k w.here.at → Guessed c s (w.k + 1) there.at
-    guess c is_n h is before = by_charge x refl
+  module _ (n_fits : n < 2 ^ 16) (m_fits : m < 2 ^ 16) (r : Result Sizes Refusal) (is-r : answer_of r ≡ limits_answer n m (length gs)) where
+    by_limits : (i x : ℕ) → refused i x ≡ limits_verdict n m (length gs) → refused i x ≡ evaluate_gates_verdict n m gs ts s (length o)
+    unfolding refuse circuit_verdict evaluate_gates_verdict ◌then◌
+    by_limits i x e = by (leb (length gs) 65535) refl
       where
-        is_x : x ≡ charge (kind_of g.code)
-        is_x = (fine_gate x e).is_result
+        by : (b : Bool) → leb (length gs) 65535 ≡ b → refused i x ≡ evaluate_gates_verdict n m gs ts s (length o)
+        by true is_b =
+            let few : length gs ≤ 65535 = leb-true _ _ is_b in
+            let head : refused i x ≡ head_verdict (circuit_bytes n m gs) =
+            rw is_b at e ∙ sym (head_made n m gs (omega arith) (omega arith) few) in
+            rw (← by_bytes few, evaluate_verdict_law) (then_refused _ _ _ _ (then_refused _ _ _ _ (then_refused _ _ _ _ head)))
+        by false is_b =
+            let many : 65535 < length gs = leb-false _ _ is_b in
+            rw is_b at e ∙ rw (lt-ltb _ _ many)
 
-        by_charge : (y : ℕ) → x ≡ y → Guessed c s (w.k + 1) there.at
-        by_charge zero f = rw (passed.free f) (guess_free c s w.k h g is.is_g w.here before (sym is_x ∙ f))
-        by_charge (suc y) f =
-            let some : x ≡ 0 → ⊥ = λ z. absurd (omega arith) in
-            guess_charged c s w.k h g is.is_g w.here before (λ z. some (is_x ∙ z)) (w.z.n + w.k + 1) (rw is_n) there (passed.found some)
-            (λ z. rw is_stride at (passed.gone some z))
+    pub gates_limits : (f : Refusal) → r ≡ Err f → EvaluateGatesIs n m gs ts s o (no (verdict_of f)) o
+    gates_limits f e = turned_down _ _ (by_limits _ _ (no_given _ _ _ (rw e at is-r)))
 
-  -- without a fault, it adds its charge
-  pub try_fine : Tries s w → (x : ℕ) → found ≡ GateRead.Fine x → (there : Cursor) → RowPassed s w.here.at w.stride x (w.z.n + w.k + 1) there.at → (r : Walk)
-      → TriedLeads ts s w.k (counted x) w.here.at there.at r → TryLeads ts s w g r
-  try_fine asked x e there passed r next = record {
-    looked = λ p. rw (next.kept p, ← (fine_gate x e).is_result) passed;
-    starts = next.starts;
-    leads = λ c o d left h is t.
-        let v = fine_gate x e in
-        next.leads c o d left t.guessed
-        (record {
-          head = t.head;
-          by_last_wires = t.by_last_wires;
-          is_n = t.is_n;
-          is_m = t.is_m;
-          is_q = t.is_q;
-          within = omega arith;
-          no_fault = first_next _ w.k t.no_fault (at_record c is t.is_n ∙ v.is_fine);
-          counted = rw (add-one, tabulate_snoc w.k (gate_at c), charges_snoc, ← is.is_g, ← t.counted, ← v.is_result);
-          guessed = guess x e there passed asked.is_stride c t.is_n h is t.guessed;
-          near = omega (arith, t.near, passed.near, asked.is_stride, record_high (get_or s 2 0));
-          untouched = t.untouched;
-          turns = omega (arith, t.turns);
-        });
-  }
+    module _ (z : Sizes) (e : r ≡ Ok z) where
+      found_sizes : Given (limits_verdict n m (length gs)) z (record { n = n; m = m; q = length gs; p = 0 })
+      found_sizes = yes_given _ _ _ (rw e at is-r)
 
-  pub try_fault : (f : Refusal) → found ≡ GateRead.Fault f → (r : Walk) → Ended (Evaluated.Refused f) r → TryLeads ts s w g r
-  try_fault f e r is-r = record {
-    looked = λ p. absurd (omega (arith, is-r.over));
-    starts = λ _ p. absurd (omega (arith, is-r.over));
-    leads = λ c o d left h is t. refuses c ts s o left r d f is-r t.untouched (verdict c o d left h is t);
-  }
-    where
-      verdict : (c o d : List ℕ) (left : ℕ) → w.k < gates c → GateIs c w.k g → Tried c s o (suc left) w.k w.z w.here.at d
-          → evaluate_verdict c ts s (length o) ≡ verdict_of f
-      verdict c o d left h is t =
-          let v : Turned (gate_verdict (w.z.n + w.k + 1) g) (verdict_of f) = no_turned _ _ _ (rw e at is_found) in
-          let k : record_verdict c (inputs c) w.k ≡ refused v.number v.place = at_record c is t.is_n ∙ v.is_v in
-          by_gate c ts s (length o) w.k v.number v.place t.head t.no_fault h k ∙ sym v.is_w
+      within : (leb (length gs) 65535 ≡ true) × (sizes_hold false n m (length gs) ≡ true)
+      within = and_both _ _ (not-false _ (refuse_fine _ _ _ found_sizes.is_fine))
 
-pub ruleset try_cases = (try_counts, try_low, try_fits, try_few, try_fine, try_fault)
-
--- ---- record_checked
-
-module _ (ts s : List ℕ) (k : ℕ) (z : Sizes) (there : Cursor) (stride : ℕ) (asked : Checks ts s k z stride there.at) (d : List ℕ) (r : Walk) where
-  pub checked_next : k + 1 < z.q → GoesTo 1 (k + 1) z there stride 0 r → CheckedLeads ts s k z there.at d r d
-  checked_next h g = record {
-    on = omega (arith, g.is_pass);
-    leads = λ c o left t. goes_1 c ts s o left r d (k + 1) z there stride asked.is_stride (omega (arith, is_q c z t.known.circuit)) g t;
-  }
-
-  -- all row records were checked
-  module _ (last : z.q ≤ k + 1) (u : Ran) (is_u : ran_of u ≡ last_verdict s there.at z.m) where
-    -- and the last record: that is the material's verdict
-    all_checked : (c o : List ℕ) (left : ℕ) → Checked c ts s o left (k + 1) z there.at d → ran_of u ≡ material_verdict (circuit_of c) s
-    all_checked c o left t =
-        let e : k + 1 ≡ gates c = omega (arith, t.within, is_q c z t.known.circuit) in
-        by_last c z s t.known (rw e at t.rows.no_fault) (ran_of u) there.at (rw (e, row_end c s) at t.rows.placed) is_u
-
-    pub checked_last : (f : Refusal) → u ≡ Ran.Refused f → Ended (Evaluated.Refused f) r → CheckedLeads ts s k z there.at d r d
-    checked_last f i e = record {
-      on = omega (arith, e.over);
-      leads = λ c o left t.
-          refuses c ts s o left r d f e t.untouched
-          (verdict_material c ts s (length o) t.known.circuit.accepted t.tokens f (rw i at (all_checked c o left t)));
-    }
-
-    module _ (i : u ≡ Ran.Done) where
-      pub checked_room : length d < 16 * (z.n + z.q) → Ended (Evaluated.Refused (Room (16 * (z.n + z.q)))) r → CheckedLeads ts s k z there.at d r d
-      checked_room h e = record {
-        on = omega (arith, e.over);
-        leads = λ c o left t.
-            let k = t.known.circuit in
-            let v = verdict_room c ts s (length o) k.accepted t.tokens (rw i at (all_checked c o left t))
-            (rw (← is_n c z k, ← is_q c z k, ← t.untouched) h) in
-            refuses c ts s o left r d (Room (16 * (z.n + z.q))) e t.untouched (rw (is_n c z k, is_q c z k) v);
+      pub gates_start : ListStart z gs
+      gates_start = record {
+        n_fits = rw found_sizes.is_result (omega arith);
+        m_fits = rw found_sizes.is_result (omega arith);
+        is_q = rw found_sizes.is_result;
+        few = leb-true _ _ within.0;
+        hold = rw found_sizes.is_result within.1;
       }
 
-      pub checked_all : 16 * (z.n + z.q) ≤ length d → (d' : List ℕ) → d' ≡ over ts d → (here : Cursor) → here.at ≡ 9 → GoesTo 2 0 z here stride 0 r
-          → CheckedLeads ts s k z there.at d r d'
-      checked_all h d' is_d here at g = record {
-        on = omega (arith, g.is_pass);
-        leads = λ c o left t.
-            let k = t.known.circuit in
-            let fit = verdict_fine c ts s (length o) k.accepted t.tokens (rw i at (all_checked c o left t))
-            (rw (← is_n c z k, ← is_q c z k, ← t.untouched) h) in
-            let sizes = (limits c z k).sizes in
-            goes_2 c ts s o left r d' 0 z here stride asked.is_stride sizes.q_low 0 g
-            (record {
-              sizes = k.sizes;
-              fit = fit;
-              so_far = rw (is_d, t.untouched) (walk_start c s _ _ (over ts o) (wires_walk c ts s _ _ o (wires c ts s o z k fit) (over ts o) refl) here.at at);
-              turns = omega (arith, t.turns, is_q c z k, t.within, last);
-            });
-      }
+      verdicts : evaluate_verdict (circuit_bytes z.n z.m gs) ts s (length o) ≡ evaluate_gates_verdict n m gs ts s (length o)
+      verdicts = rw found_sizes.is_result (by_bytes (leb-true _ _ within.0))
 
-pub ruleset checked_cases = (checked_next, checked_last, checked_room, checked_all)
+      -- what was tried
+      module _ (t : Result Unit Refusal) (is_t : ran_of t ≡ evaluate_verdict (circuit_bytes z.n z.m gs) ts s (length o)) where
+        pub gates_turned : (f : Refusal) → t ≡ Err f → EvaluateGatesIs n m gs ts s o (no (verdict_of f)) o
+        gates_turned f g = turned_down _ _ (ran_refused t _ is_t f g ∙ verdicts)
 
--- ---- check_record
-module _ (ts s : List ℕ) (w : Walk) (g : Gate) where
-  -- the answer to the gate's record
-  module _ (u : Step) (is_u : step_of u ≡ pass_answer s w.here.at g.code (w.z.n + w.k + 1)) where
-    -- gate k of the circuit
-    module _ (c o d : List ℕ) (left : ℕ) (h : w.k < gates c) (is : GateIs c w.k g)
-        (t : Checked c ts s o (suc left) w.k w.z w.here.at d) where
-      past_gate : (there : Cursor) → u ≡ Step.Next there → Checked c ts s o left (w.k + 1) w.z there.at d
-      past_gate there e = record {
-        known = t.known;
-        tokens = t.tokens;
-        within = omega arith;
-        rows = row_past c w.z s t.known w.k h g is.is_g w.here t.rows u is_u there e;
-        untouched = t.untouched;
-        turns = omega (arith, t.turns);
-      }
+        module _ (g : t ≡ Ok tt) where
+          is_fine : evaluate_verdict (circuit_bytes z.n z.m gs) ts s (length o) ≡ fine
+          is_fine = sym (ran_done t _ is_t g)
 
-      stopped : (f : Refusal) → u ≡ Step.Fault f → evaluate_verdict c ts s (length o) ≡ verdict_of f
-      stopped f e =
-          verdict_material c ts s (length o) t.known.circuit.accepted t.tokens f
-          (by_record c w.z s t.known (verdict_of f) (row_fault c w.z s t.known w.k h g is.is_g w.here t.rows u is_u f e) (number_of f)
-          (place_of f) refl)
+          accepted : Accepted (circuit_bytes z.n z.m gs) (sizes_of (circuit_bytes z.n z.m gs))
+          accepted = record { accepted = (then_fine _ _ (rw evaluate_verdict_law at is_fine)).0; sizes = refl }
 
-    goes_past : (there : Cursor) → u ≡ Step.Next there → (d : List ℕ) (r : Walk) (d' : List ℕ) → CheckedLeads ts s w.k w.z there.at d r d'
-        → CheckLeads ts s w g d r d'
-    goes_past there e d r d' next = record { on = next.on; leads = λ c o left h is t. next.leads c o left (past_gate c o d left h is t there e) }
+          start : WiresStart (circuit_bytes z.n z.m gs) ts s z.n z.q o
+          unfolding sizes_of
+          start = rw (n_made z gs gates_start, q_made z gs gates_start) at (evaluate_fine (circuit_bytes z.n z.m gs) ts s o is_fine _ accepted)
 
-  -- a gate that has no record
-  module _ (x : ℕ) (is_x : x ≡ charge (kind_of g.code)) where
-    module _ (e : x ≡ 0) where
-      free : charge (kind_of g.code) ≡ 0
-      free = sym is_x ∙ e
+          pub gates_room : length ts ≤ length o
+          gates_room = omega (arith, start.tokens, start.walk.room)
 
-      pub free_asks : Checks ts s w.k w.z w.stride (w.here.at + charge (kind_of g.code) * w.stride)
-          → Checks ts s w.k w.z w.stride w.here.at
-      free_asks a = record { few = a.few; is_stride = a.is_stride; tokens = a.tokens; room = omega (arith, rw free at a.room) }
+          -- the tokens were copied to the front of the buffer
+          module _ (d : List ℕ) (is_d : d ≡ over ts o) where
+            pub gates_walk : WalkStart (circuit_bytes z.n z.m gs) s z.n z.q d
+            gates_walk = wires_walk (circuit_bytes z.n z.m gs) ts s z.n z.q o start d is_d
 
-      pub free_passed : (d : List ℕ) (r : Walk) (d' : List ℕ) → CheckedLeads ts s w.k w.z w.here.at d r d' → CheckLeads ts s w g d r d'
-      free_passed = goes_past (Step.Next w.here) (answer_free s w.here.at g.code (w.z.n + w.k + 1) free) w.here refl
+            pub gates_done : (calls : ℕ) (x : List ℕ) → WalkedIs (circuit_bytes z.n z.m gs) s z.n d calls x → EvaluateGatesIs n m gs ts s o (yes calls) x
+            gates_done calls x is =
+                let made : EvaluateIs (circuit_bytes n m gs) ts s o (yes calls) x = rw found_sizes.is_result at
+                (evaluate_made (circuit_bytes z.n z.m gs) ts s o is_fine calls x (wires_done (circuit_bytes z.n z.m gs) ts s z.n z.q o start d is_d calls x is)) in
+                let v = by_bytes (leb-true _ _ within.0) in
+                record { answered = rw (← v) made.answered; left = rw (← v) made.left }
 
-    -- a charged one
-    module _ (n : x ≡ 0 → ⊥) where
-      charged : charge (kind_of g.code) ≡ 0 → ⊥
-      charged e = n (is_x ∙ e)
-
-      whole : Checks ts s w.k w.z w.stride (w.here.at + charge (kind_of g.code) * w.stride)
-          → w.here.at + w.stride + 2 + w.z.m ≤ length s
-      whole a = omega (arith, rw (one_charged (kind_of g.code) charged).1 at a.room)
-
-      pub charged_asks : Checks ts s w.k w.z w.stride (w.here.at + charge (kind_of g.code) * w.stride) → w.here.at + 4 ≤ length s
-      charged_asks a = omega (arith, whole a, a.is_stride, record_low (get_or s 2 0))
-
-      pub charged_fits : Checks ts s w.k w.z w.stride (w.here.at + charge (kind_of g.code) * w.stride) → length s < 2 ^ 64
-          → w.here.at + w.stride < 18446744073709551616
-      charged_fits a l = omega (arith, whole a)
-
-      -- whether its record is there, as it was read
-      module _ (b : Bool) (is_b : b ≡ row_record_at s w.here.at (w.z.n + w.k + 1)) where
-        pub charged_wrong : not b ≡ true → (d : List ℕ) (r : Walk) (due : Wire) → due.0 ≡ w.z.n + w.k + 1 → Ended (Evaluated.Refused (RowRecord due)) r
-            → CheckLeads ts s w g d r d
-        charged_wrong e d r due is_due is-r = record {
-          on = omega (arith, is-r.over);
-          leads = λ c o left h is t.
-              refuses c ts s o left r d (RowRecord due) is-r t.untouched
-              (stopped (Step.Fault (RowRecord due))
-              (rw is_due (answer_wrong s w.here.at g.code (w.z.n + w.k + 1) charged (sym is_b ∙ not-true b e)))
-              c o d left h is t (RowRecord due) refl);
-        }
-
-        module _ (e : not b ≡ false) (there : Cursor) (is_there : there.at ≡ w.here.at + w.stride)
-            (a : Checks ts s w.k w.z w.stride (w.here.at + charge (kind_of g.code) * w.stride)) where
-          pub charged_past : Checks ts s w.k w.z w.stride there.at
-          charged_past = record { few = a.few; is_stride = a.is_stride; tokens = a.tokens; room = rw is_there (whole a) }
-
-          pub charged_right : (d : List ℕ) (r : Walk) (d' : List ℕ) → CheckedLeads ts s w.k w.z there.at d r d' → CheckLeads ts s w g d r d'
-          charged_right =
-              goes_past (Step.Next there)
-              (answer_right s w.here.at g.code (w.z.n + w.k + 1) charged (sym is_b ∙ not-false b e) there.at
-              (omega (arith, is_there, a.is_stride))) there refl
-
-pub ruleset check_asks = (free_asks, charged_asks, charged_fits, charged_past)
-
-pub ruleset check_cases = (free_passed, charged_wrong, charged_right)
-
--- ---- token_written
-module _ (k : ℕ) (z : Sizes) (there : Cursor) (stride calls : ℕ) (r : Walk) where
-  pub onward_more : k + 1 < z.q → GoesTo 2 (k + 1) z there stride calls r → Onward k z there stride calls r
-  onward_more h goes = record { goes = λ l. goes; stops = λ l. absurd (not_both l) }
-    where
-      not_both : z.q ≤ k + 1 → ⊥
-      not_both l = omega arith
-
-  pub onward_last : z.q ≤ k + 1 → Ended (Evaluated.Done calls) r → Onward k z there stride calls r
-  onward_last h e = record { goes = λ l. absurd (not_both l); stops = λ l. e }
-    where
-      not_both : k + 1 < z.q → ⊥
-      not_both l = omega arith
-
-pub ruleset onward_cases = (onward_more, onward_last)
-
--- ---- write_next
-module _ (s : List ℕ) (w : Walk) (g : Gate) (d d' : List ℕ) (there : Cursor) (made : ℕ)
-    (is : TokenIs (get_or s 2 0) w.z.n w.k g s w.here.at d there.at made d') (is_stride : w.stride ≡ record_length (scheme_of (get_or s 2 0))) (r : Walk) where
-  -- one more token is written
-  one_more : (c ts o : List ℕ) (left : ℕ) → w.k < gates c → GateIs c w.k g → Written c ts s o (suc left) w.k w.z w.here.at w.calls d
-      → Walking c s (inputs c) (gates c) (over ts o) (w.k + 1) there.at (w.calls + made) d'
-  one_more c ts o left h gate t =
-      let known = accepted_by c ts s o w.z t.sizes t.fit in
-      let step = rw (gate.is_g, is_n c w.z known) at is in
-      walk_turn c s _ _ (over ts o) (wires_walk c ts s _ _ o (wires c ts s o w.z known t.fit) (over ts o) refl) w.k w.here.at w.calls d t.so_far h
-      there.at made d' step
-
-  write_more : w.k + 1 < w.z.q → GoesTo 2 (w.k + 1) w.z there w.stride (w.calls + made) r → WriteLeads s w g d r d'
-  write_more h goes = record {
-    on = omega (arith, goes.is_pass);
-    leads = λ c ts o left more gate t.
-        let known = accepted_by c ts s o w.z t.sizes t.fit in
-        goes_2 c ts s o left r d' (w.k + 1) w.z there w.stride is_stride (omega (arith, is_q c w.z known)) (w.calls + made) goes
-        (record { sizes = t.sizes; fit = t.fit; so_far = one_more c ts o left more gate t; turns = omega (arith, t.turns) });
-  }
-
-  write_last : w.z.q ≤ w.k + 1 → Ended (Evaluated.Done (w.calls + made)) r → WriteLeads s w g d r d'
-  write_last h e = record {
-    on = omega (arith, e.over);
-    leads = λ c ts o left more gate t.
-        let known = accepted_by c ts s o w.z t.sizes t.fit in
-        let start = wires c ts s o w.z known t.fit in
-        let all = walk_end c s _ _ (over ts o) (wires_walk c ts s _ _ o start (over ts o) refl) (w.k + 1) there.at (w.calls + made) d' (one_more c ts o left more gate t)
-        (omega (arith, is_q c w.z known)) in
-        let are = wires_done c ts s _ _ o start (over ts o) refl (w.calls + made) d' all in
-        ends c ts s o left r d' e.over
-        (rw e.answered (evaluate_made c ts s o t.fit _ d' are));
-  }
-
-  write_on : Onward w.k w.z there w.stride (w.calls + made) r → WriteLeads s w g d r d'
-  write_on next = go (dec_lt (w.k + 1) w.z.q)
-    where
-      go : Dec (w.k + 1 < w.z.q) → WriteLeads s w g d r d'
-      go (Dec.yes h) = write_more h (next.goes h)
-      go (Dec.no h) = let l : w.z.q ≤ w.k + 1 = omega arith in write_last l (next.stops l)
-
-module _ (t k s d : List ℕ) (w : Walk) (g : Gate) (asked : Writes t k s d w g) where
-  -- the same after a gate that is not charged
-  pub write_on_free : (d' : List ℕ) → FreeTokenIs w.z.n w.k g d d' → (r : Walk) → Onward w.k w.z w.here w.stride w.calls r
-      → WriteLeads s w g d r d'
-  write_on_free d' is r next =
-      let e : w.calls + 0 ≡ w.calls = omega arith in
-      write_on s w g d d' w.here 0 (is.left (get_or s 2 0) s w.here.at) asked.is_stride r (rw e next)
-
-  -- and after a charged one
-  module _ (h : charge (kind_of g.code) ≡ 1) where
-    pub write_room : RecordRoom (get_or s 2 0) w.here.at s
-    write_room = charged_room (get_or s 2 0) g.code w.here.at s asked.start.record_room h
-
-    pub write_fits : length s < 2 ^ 64 → w.here.at + w.stride < 18446744073709551616
-    write_fits l = omega (arith, asked.is_stride, write_room.room)
-
-    -- no count overflows
-    pub write_calls : (next made : ℕ) (d' : List ℕ) → TokenIs (get_or s 2 0) w.z.n w.k g s w.here.at d next made d' → Fits w64 (w.calls + made)
-    write_calls next made d' is =
-        omega (arith, asked.few_calls, asked.few.more, asked.few.wires, few_made (get_or s 2 0) w.z.n w.k g s w.here.at d next made d' is)
-
-    pub write_on_charged : (there : Cursor) → there.at ≡ w.here.at + w.stride → (made : ℕ) (d' : List ℕ)
-        → TokenIs (get_or s 2 0) w.z.n w.k g s w.here.at d (w.here.at + record_length (scheme_of (get_or s 2 0))) made d' → (r : Walk)
-        → Onward w.k w.z there w.stride (w.calls + made) r → WriteLeads s w g d r d'
-    write_on_charged there e made d' is r next =
-        write_on s w g d d' there made (rw (e, asked.is_stride) is) asked.is_stride r next
-
-pub ruleset write_cases = (write_on_free, write_room, write_fits, write_calls, write_on_charged, charge_cases)
+pub ruleset gates_cases = (gates_limits, gates_start, gates_turned, gates_room, gates_walk, gates_done)

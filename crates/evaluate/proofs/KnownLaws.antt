@@ -1,4 +1,5 @@
 -- Decoding by hashes: the search for a token that is not known, the bits, and both marks. Assumes nothing.
+use Rattle.std.specs.Prelude.{Result, Ok, Err}
 use Prim.Native.Nat.{ℕ, ◌+◌, ◌*◌, ◌-◌, ◌≤◌, ◌<◌}
 use native.Mathlib.Omega.{arith}
 use mathlib.Core.Path.{◌≡◌, refl, sym, ◌∙◌}
@@ -6,12 +7,9 @@ use mathlib.Core.Bool.{Bool, true, false, cond, ◌||◌, not}
 use mathlib.Core.List.{List}
 use lib.Bits.{bit_or, bit_and, and_le_l, and_le_r, and_self}
 use lib.ListN.{length, take, drop, set}
-use mir.Syntax.{w64}
-use mir.Val.{Fits}
-use Rattle.model.specs.declared.Ran.{Ran}
 use Rattle.model.specs.declared.Refusal.{Refusal}
 use Rattle.model.specs.Bytes.{over, equal_bytes}
-use Rattle.model.specs.Aes.{Block, key_expansion, fixed_key}
+use Rattle.model.specs.Aes.{Block}
 use Rattle.model.specs.Hashes.{hash}
 use Rattle.model.specs.Ending.{output_tweak, agrees, colours, hashes, ending_of}
 use Rattle.model.specs.Material.{hashed, last_bytes}
@@ -21,38 +19,15 @@ use Rattle.model.specs.Operations.{ran_of}
 use Rattle.model.proofs.Verdicts.{first_all, Together, together_turn, ran_refused, ran_done}
 use Rattle.model.proofs.OldEnding.{colours_bytes}
 use Rattle.material.proofs.EndingLaws.{first_at, second_at}
-use Rattle.planes.specs.Sliced.{IsSliced}
-use Rattle.scheme.specs.Garbled.{FixedPlanes}
 use Rattle.evaluate.specs.declared.hashes.Differing.{Differing}
-use Rattle.evaluate.specs.Last.{known_verdict, bits_of, LastStart, HashesStart, agreed, DifferingIs, HashedStart, BitsAre, BitsStart, stored_start, MarkedBits}
+use Rattle.evaluate.specs.Last.{known_verdict, bits_of, LastStart, agreed, DifferingIs, HashedStart, BitsAre, BitsStart, stored_start, MarkedBits}
 use Rattle.evaluate.proofs.LastLaws.{Telling, telling_start, telling_turn, telling_end}
 
--- ---- compare_output
-module _ (m first : ℕ) (ts s : List ℕ) (start : HashesStart m first ts s) (i : ℕ) (h : i < m) where
-  pub compare_place : Fits w64 (32 * i)
-  compare_place = omega (arith, start.few)
-
-  pub compare_token : 16 * i + 16 ≤ length ts
-  compare_token = omega (arith, start.tokens)
-
-  pub compare_small : Fits w64 (16 * i)
-  compare_small = omega (arith, start.few)
-
-  pub compare_number : i + 1 ≤ 65536
-  compare_number = omega (arith, start.few)
-
-  pub compare_zero : first + 32 * i + 16 ≤ length s
-  compare_zero = omega (arith, start.stored)
-
-  pub compare_one : first + 32 * i + 16 + 16 ≤ length s
-  compare_one = omega (arith, start.stored)
-
+-- ---- compare
 pub compare_done : (ts s : List ℕ) (first i : ℕ) (x y u v : Block) → x ≡ take 16 (drop (16 * i) ts) → y ≡ hash x (output_tweak (i + 1)) → u ≡ take 16 (drop (first + 32 * i) s)
     → v ≡ take 16 (drop (first + 32 * i + 16) s) → (d : Differing) → d.zero ≡ cond (equal_bytes y u) 0 1 → d.one ≡ cond (equal_bytes y v) 0 1 → DifferingIs ts s first i d
 unfolding agreed agrees
 compare_done ts s first i x y u v is_x is_y is_u is_v d e f = record { is_zero = rw (← is_x, ← is_y, ← is_u) e; is_one = rw (← is_x, ← is_y, ← is_v) f }
-
-pub ruleset compare_cases = (compare_place, compare_token, compare_small, compare_number, compare_zero, compare_one)
 
 -- ---- the search
 
@@ -67,10 +42,10 @@ none_agrees false true n = absurd (n (omega (arith, and_le_r 1 0)))
 none_agrees false false n = refl
 
 -- what the two comparisons of output i tell
-module _ (ts s : List ℕ) (first m i : ℕ) (start : HashesStart m first ts s) (h : i < m) where
+module _ (ts s : List ℕ) (first m i : ℕ) (stored : first + 32 * m ≤ length s) (h : i < m) where
   known_is : known_verdict hashes ts s first i ≡ refuse (not (agreed ts s i (first + 32 * i) || agreed ts s i (first + 32 * i + 16))) 29 (i + 1)
   unfolding known_verdict agreed
-  known_is = unfold hashes in rw (first_at s first i, second_at s first i (omega (arith, start.stored)))
+  known_is = unfold hashes in rw (first_at s first i, second_at s first i (omega arith))
 
   bit_is : hashes.bit (i + 1) (take 16 (drop (16 * i) ts)) (bytes_for hashes s first i) ≡ cond (agreed ts s i (first + 32 * i)) 0 1
   unfolding agreed
@@ -96,28 +71,22 @@ module _ (ts s : List ℕ) (first m i : ℕ) (start : HashesStart m first ts s) 
 pub ruleset token_cases = (token_known, token_unknown)
 
 -- ---- the bits
-module _ (ts s : List ℕ) (first m : ℕ) (o : List ℕ) (start : HashedStart m first ts s o) where
-  pub bits_hashes : HashesStart m first ts s
-  bits_hashes = start.hashes
-
+module _ (ts s : List ℕ) (first m : ℕ) (o : List ℕ) (room : m ≤ length o) where
   module _ (i : ℕ) (d : List ℕ) (inv : Telling hashes ts s first m o i d) where
     pub bits_write : i < m → i < length d
-    bits_write h = omega (arith, start.room, inv.same_length)
+    bits_write h = omega (arith, inv.same_length)
 
-    pub bits_turn : i < m → (x : Differing) → DifferingIs ts s first i x → Telling hashes ts s first m o (i + 1) (set d i x.zero)
-    bits_turn h x is_x = zero_told ts s first m i start.hashes h x is_x o d start.room inv
+    pub bits_turn : first + 32 * m ≤ length s → i < m → (x : Differing) → DifferingIs ts s first i x → Telling hashes ts s first m o (i + 1) (set d i x.zero)
+    bits_turn stored h x is_x = zero_told ts s first m i stored h x is_x o d room inv
 
-pub ruleset writing_cases = (telling_start, telling_end, bits_hashes, bits_write, bits_turn)
+pub ruleset writing_cases = (telling_start, telling_end, bits_write, bits_turn)
 
 -- ---- decode_hashes
-pub known_planes : (w k : List ℕ) → w ≡ key_expansion fixed_key → IsSliced (λ b. w) k → FixedPlanes k
-known_planes w k e h = rw e at h
-
-module _ (m first : ℕ) (ts s o : List ℕ) (t : Ran) (is_t : ran_of t ≡ first_of (known_verdict hashes ts s first) m) where
-  pub known_turned : (f : Refusal) → t ≡ Ran.Refused f → BitsAre hashes first m ts s o (verdict_of f) o
+module _ (m first : ℕ) (ts s o : List ℕ) (t : Result Unit Refusal) (is_t : ran_of t ≡ first_of (known_verdict hashes ts s first) m) where
+  pub known_turned : (f : Refusal) → t ≡ Err f → BitsAre hashes first m ts s o (verdict_of f) o
   known_turned f e = let v = ran_refused t _ is_t f e in record { answered = v; left = refl }
 
-  pub known_done : t ≡ Ran.Done → (x : List ℕ) → x ≡ over (bits_of hashes ts s first m) o → BitsAre hashes first m ts s o fine x
+  pub known_done : t ≡ Ok tt → (x : List ℕ) → x ≡ over (bits_of hashes ts s first m) o → BitsAre hashes first m ts s o fine x
   known_done e x is_x = record { answered = ran_done t _ is_t e; left = is_x }
 
 -- ---- decode_bits

@@ -7,4 +7,3 @@ pub mod EvaluateLaws
 pub mod DecodeLaws
 pub mod OutputLaws
 pub mod GateListLaws
-pub mod GoodWalk

@@ -1,4 +1,5 @@
 -- The outputs' tokens: the invariant of the loop that gathers them, the refusals of `output_tokens`, and the buffer that it leaves. Assumes nothing.
+use Rattle.std.specs.Prelude.{Result, Ok, Err}
 use Prim.Native.Nat.{ℕ, ◌+◌, ◌*◌, ◌-◌, ◌≤◌, ◌<◌}
 use native.Mathlib.Decide.{dec_lt}
 use native.Mathlib.Omega.{arith}
@@ -8,15 +9,13 @@ use lib.ListN.{length, get_or, take, drop, length-drop, get_or-eq_default}
 use lib.Seq.{length-take-le}
 use Rattle.model.specs.declared.Sizes.{Sizes}
 use Rattle.model.specs.declared.Refusal.{Refusal}
-use Rattle.model.specs.declared.Checked.{Checked}
-use Rattle.model.specs.declared.Ran.{Ran}
 use Rattle.model.specs.Bytes.{over, put}
 use Rattle.model.specs.Circuit.{circuit_of, inputs, outputs, gates}
 use Rattle.model.specs.Aes.{Block}
 use Rattle.model.specs.Material.{join_blocks}
 use Rattle.model.specs.Evaluation.{token_at, output_tokens}
 use Rattle.model.specs.Refusals.{fine, refused, ◌then◌, verdict_of, circuit_verdict}
-use Rattle.model.specs.Operations.{sizes_of, checked_of, check_answer, ran_of, output_tokens_verdict, OutputTokensIs}
+use Rattle.model.specs.Operations.{sizes_of, check_answer, ran_of, output_tokens_verdict, OutputTokensIs, answer_of}
 use Rattle.model.proofs.Lists.{map_elements}
 use Rattle.model.proofs.Filling.{Filling, fill_start, fill_turn, fill_end}
 use Rattle.model.proofs.Accepted.{SizesHold, OutputHolds, accepted_output}
@@ -111,22 +110,22 @@ module _ (c ws o : List ℕ) where
   refused_is i x e = record { answered = e; left = rw (← e) }
 
   -- check's answer r
-  module _ (r : Checked) (is_r : checked_of r ≡ check_answer c) where
-    pub output_circuit : (f : Refusal) → r ≡ Checked.Refused f → OutputTokensIs c ws o (verdict_of f) o
+  module _ (r : Result Sizes Refusal) (is_r : answer_of r ≡ check_answer c) where
+    pub output_circuit : (f : Refusal) → r ≡ Err f → OutputTokensIs c ws o (verdict_of f) o
     output_circuit f e = refused_is _ _ (rw output_verdict_law (then_refused _ _ _ _ (Sized.check_refused c r is_r f e)))
 
     -- and that of what it left to try
-    module _ (z : Sizes) (e : r ≡ Checked.Accepted z) (t : Ran) (is_t : ran_of t ≡ output_arguments z ws (length o)) where
+    module _ (z : Sizes) (e : r ≡ Ok z) (t : Result Unit Refusal) (is_t : ran_of t ≡ output_arguments z ws (length o)) where
       known : Accepted c z
       known = Sized.check_accepted c r is_r z e
 
       tried : ran_of t ≡ output_tokens_verdict c ws (length o)
       tried = is_t ∙ Sized.left_to_try c z known (λ x. output_arguments x ws (length o)) ∙ sym (output_verdict_law c ws (length o))
 
-      pub output_turned : (f : Refusal) → t ≡ Ran.Refused f → OutputTokensIs c ws o (verdict_of f) o
+      pub output_turned : (f : Refusal) → t ≡ Err f → OutputTokensIs c ws o (verdict_of f) o
       output_turned f g = refused_is _ _ (ran_refused t _ tried f g)
 
-      module _ (g : t ≡ Ran.Done) where
+      module _ (g : t ≡ Ok tt) where
         is_fine : output_tokens_verdict c ws (length o) ≡ fine
         is_fine = sym (ran_done t _ tried g)
 

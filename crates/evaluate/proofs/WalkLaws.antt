@@ -45,7 +45,7 @@ use Rattle.circuit.specs.Answers.{TakesIs}
 use Rattle.scheme.specs.declared.OpenedGate.{OpenedGate}
 use Rattle.scheme.specs.Garbled.{OpenedIs}
 use Rattle.scheme.specs.Rows.{RecordRoom}
-use Rattle.evaluate.specs.Walk.{Operands, GateRoom, TokenStart, TokenIs, FreeTokenIs, OpenStart, OpenedTo, WalkStart, WiresStart, S, tokens_to, Walking, WalkedIs, WiresAre}
+use Rattle.evaluate.specs.Walk.{Operands, GateRoom, TokenStart, TokenIs, FreeTokenIs, OpenedTo, WalkStart, WiresStart, S, tokens_to, Walking, WalkedIs, WiresAre}
 
 -- a free gate's token, from what its code takes: F is held on the operand that it takes, or on the first of both
 module _ (k : Kind) (a both : ℕ) (takes : TakesIs k a both) (A B F : Block) (is_F : F ≡ cond (eqb a 1) A B) where
@@ -166,57 +166,32 @@ few_made scheme n k g s at d next made d' t =
       mul-le-mul (charge_le (kind_of g.code)) (asked_few scheme),
     )
 
--- ---- write_token_at
+-- ---- write_token
 
 used_known : {k : Kind} → Used k → is_refused k ≡ false
 used_known used_charged = refl
 used_known used_free = refl
 
-module _ (scheme : ℕ) (c : List ℕ) (n k : ℕ) (s : List ℕ) (at calls : ℕ) (d : List ℕ) (start : OpenStart scheme c n k s at calls d) where
-  in_circuit : HeaderHolds c
-  in_circuit = accepted_header c start.accepted
+module _ (scheme n k : ℕ) (g : Gate) (s : List ℕ) (at calls : ℕ) (d : List ℕ) (start : TokenStart scheme n k g s at d) (few_calls : calls ≤ 2 * k) where
+  pub step_operands : Operands n k g d
+  step_operands = start.operands
 
-  pub step_record : 8 + 7 * k + 7 ≤ length c
-  step_record = omega (arith, gates_inside c in_circuit, start.more)
+  pub step_known : is_refused (kind_of g.code) ≡ false
+  step_known = start.operands.known
 
-  pub step_small : k < 65536
-  step_small = omega (arith, in_circuit.sizes.sum, start.more)
+  pub step_room : charge (kind_of g.code) ≡ 1 → RecordRoom scheme at s
+  step_room h = charged_room scheme g.code at s start.record_room h
 
-  pub step_token : (g : Gate) → g ≡ gate_at c k → TokenStart scheme n k g s at d
-  step_token g is_g =
-      let held : GateHolds (gate_wire n k) g = rw (is_g, start.is_n) (accepted_gate c k start.accepted start.more) in
-      record {
-        operands = record {
-          few = omega (arith, in_circuit.sizes.sum, start.more, start.is_n);
-          a_low = held.a_low;
-          order = held.order;
-          b_high = held.b_high;
-          known = used_known held.used;
-          token_room = start.token_room;
-        };
-        record_room = rw is_g start.record_room;
-      }
+  pub step_free : (d' : List ℕ) → FreeTokenIs n k g d d' → OpenedTo scheme n k g s at calls d at calls d'
+  step_free d' t = record { made = 0; token = t.left scheme s at; added = omega arith }
 
-  pub step_operands : (g : Gate) → g ≡ gate_at c k → Operands n k g d
-  step_operands g is_g = (step_token g is_g).operands
-
-  pub step_known : (g : Gate) → g ≡ gate_at c k → is_refused (kind_of g.code) ≡ false
-  step_known g is_g = (step_operands g is_g).known
-
-  pub step_room : (g : Gate) → g ≡ gate_at c k → charge (kind_of g.code) ≡ 1 → RecordRoom scheme at s
-  step_room g is_g h = charged_room scheme g.code at s (step_token g is_g).record_room h
-
-  pub step_free : (g : Gate) → g ≡ gate_at c k → (d' : List ℕ) → FreeTokenIs n k g d d' → OpenedTo scheme n k (gate_at c k) s at calls d at calls d'
-  step_free g is_g d' t = record { made = 0; token = rw (← is_g) (t.left scheme s at); added = omega arith }
-
-  module _ (g : Gate) (is_g : g ≡ gate_at c k) (bytes : ℕ) (is_bytes : bytes ≡ record_length (scheme_of scheme)) where
-    pub step_charged : (next : ℕ) → next ≡ at + bytes → (made : ℕ) (d' : List ℕ) → TokenIs scheme n k g s at d (at + record_length (scheme_of scheme)) made d'
-        → OpenedTo scheme n k (gate_at c k) s at calls d next (calls + made) d'
-    step_charged next e made d' t = record { made = made; token = rw (e, is_bytes, ← is_g) t; added = refl }
+  pub step_charged : (bytes : ℕ) → bytes ≡ record_length (scheme_of scheme) → (next : ℕ) → next ≡ at + bytes → (made : ℕ) (d' : List ℕ)
+      → TokenIs scheme n k g s at d (at + record_length (scheme_of scheme)) made d' → OpenedTo scheme n k g s at calls d next (calls + made) d'
+  step_charged bytes is_bytes next e made d' t = record { made = made; token = rw (e, is_bytes) t; added = refl }
 
   -- no count overflows
-  pub step_calls : (g : Gate) (next made : ℕ) (d' : List ℕ) → TokenIs scheme n k g s at d next made d' → Fits w64 (calls + made)
-  step_calls g next made d' t = omega (arith, start.few_calls, step_small, few_made scheme n k g s at d next made d' t)
+  pub step_calls : (next made : ℕ) (d' : List ℕ) → TokenIs scheme n k g s at d next made d' → Fits w64 (calls + made)
+  step_calls next made d' t = omega (arith, few_calls, start.operands.few, few_made scheme n k g s at d next made d' t)
 
 -- a charge that is not 0 is 1
 pub step_one : (k : Kind) (x : ℕ) → x ≡ charge k → (x ≡ 0 → ⊥) → charge k ≡ 1
@@ -229,7 +204,7 @@ step_none k x e h = sym e ∙ h
 
 pub ruleset charge_cases = (step_none, step_one)
 
-pub ruleset step_cases = (step_record, step_small, step_operands, step_known, step_room, step_free, step_charged, step_calls, charge_cases)
+pub ruleset step_cases = (step_operands, step_known, step_room, step_free, step_charged, step_calls, charge_cases)
 
 -- ---- write_tokens
 
@@ -257,14 +232,14 @@ module _ (c s : List ℕ) (n q : ℕ) (o : List ℕ) (start : WalkStart c s n q 
   unfolding material_length
   walk_scheme = omega (arith, start.whole)
 
-  pub walk_start : (at : ℕ) → at ≡ 9 → Walking c s n q o 0 at 0 o
+  pub walk_start : (at calls : ℕ) → (at ≡ 9) × (calls ≡ 0) → Walking c s n q o 0 at calls o
   unfolding tokens_to open_gates charges evaluate_calls
-  walk_start at e = record {
+  walk_start at calls e = record {
     within = omega arith;
     same_length = refl;
-    is_at = e ∙ sym (start_first (get_or s 2 0) (gate_at c));
+    is_at = e.0 ∙ sym (start_first (get_or s 2 0) (gate_at c));
     so_far = front n o (omega (arith, start.room));
-    counted = refl;
+    counted = e.1;
   }
 
   module _ (k at calls : ℕ) (d : List ℕ) (inv : Walking c s n q o k at calls d) where
@@ -289,15 +264,29 @@ module _ (c s : List ℕ) (n q : ℕ) (o : List ℕ) (start : WalkStart c s n q 
           let fits = record_fits (get_or s 2 0) (gate_at c) k (gates c) (omega (arith, start.is_q)) in
           omega (arith, fits, inv.is_at, start.whole, length_last (get_or s 2 0) (last_bytes (hashed s) (outputs c)) (charges (tabulate (gates c) (gate_at c))))
 
-      pub walk_step : OpenStart (get_or s 2 0) c n k s at calls d
-      walk_step = record {
-        accepted = start.accepted;
-        is_n = start.is_n;
-        more = omega (arith, start.is_q);
-        record_room = record { known = start.known; room = room_at };
-        token_room = omega (arith, start.room, inv.same_length);
-        few_calls = walk_few;
-      }
+      in_circuit : HeaderHolds c
+      in_circuit = accepted_header c start.accepted
+
+      pub walk_gate : 8 + 7 * k + 7 ≤ length c
+      walk_gate = omega (arith, gates_inside c in_circuit, start.is_q)
+
+      pub walk_small : k < 65536
+      walk_small = omega (arith, in_circuit.sizes.sum, start.is_q)
+
+      pub walk_token : (g : Gate) → g ≡ gate_at c k → TokenStart (get_or s 2 0) n k g s at d
+      walk_token g is_g =
+          let held : GateHolds (gate_wire n k) g = rw (is_g, start.is_n) (accepted_gate c k start.accepted (omega (arith, start.is_q))) in
+          record {
+            operands = record {
+              few = omega (arith, in_circuit.sizes.sum, start.is_n, start.is_q);
+              a_low = held.a_low;
+              order = held.order;
+              b_high = held.b_high;
+              known = used_known held.used;
+              token_room = omega (arith, start.room, inv.same_length);
+            };
+            record_room = record { known = start.known; room = rw is_g room_at };
+          }
 
       held : Blocks (n + k) (tokens_to c s (cut n o) k)
       held = tokens_blocks c s k (cut_blocks n o (omega (arith, start.room)))
@@ -349,10 +338,11 @@ module _ (c s : List ℕ) (n q : ℕ) (o : List ℕ) (start : WalkStart c s n q 
             counted = rw add-one (counted_next made step.calls_made);
           }
 
-      pub walk_stepped : (next calls' : ℕ) (d' : List ℕ) → OpenedTo (get_or s 2 0) n k (gate_at c k) s at calls d next calls' d' → Walking c s n q o (k + 1) next calls' d'
-      walk_stepped next calls' d' step = rw step.added (walk_turn next step.made d' step.token)
+      pub walk_stepped : (g : Gate) → g ≡ gate_at c k → (next calls' : ℕ) (d' : List ℕ) → OpenedTo (get_or s 2 0) n k g s at calls d next calls' d'
+          → Walking c s n q o (k + 1) next calls' d'
+      walk_stepped g is_g next calls' d' step = rw step.added (walk_turn next step.made d' (rw is_g at step.token))
 
-pub ruleset walk_turns = (walk_scheme, walk_start, walk_end, walk_step, walk_stepped)
+pub ruleset walk_turns = (walk_scheme, walk_start, walk_few, walk_end, walk_gate, walk_small, walk_token, walk_stepped)
 
 -- ---- evaluate_wires: d is the buffer after the tokens were copied to its front
 module _ (c ts s : List ℕ) (n q : ℕ) (o : List ℕ) (start : WiresStart c ts s n q o) (d : List ℕ) (is_d : d ≡ over ts o) where

@@ -41,15 +41,6 @@ pub record TokenIs (scheme n k : ℕ) (g : Gate) (s : List ℕ) (at : ℕ) (d : 
 pub record FreeTokenIs (n k : ℕ) (g : Gate) (d d' : List ℕ) : Type 0 where
   pub left : (scheme : ℕ) (s : List ℕ) (at : ℕ) → TokenIs scheme n k g s at d at 0 d'
 
--- the same of gate k of an accepted circuit, few encryptions so far
-pub record OpenStart (scheme : ℕ) (c : List ℕ) (n k : ℕ) (s : List ℕ) (at calls : ℕ) (d : List ℕ) : Type 0 where
-  pub accepted : circuit_verdict c ≡ fine
-  pub is_n : n ≡ inputs c
-  pub more : k < gates c
-  pub record_room : GateRoom scheme (gate_at c k).code at s
-  pub token_room : 16 * (n + k) + 16 ≤ length d
-  pub few_calls : calls ≤ 2 * k
-
 -- its token, and the calls made for it added to those so far
 pub record OpenedTo (scheme n k : ℕ) (g : Gate) (s : List ℕ) (at calls : ℕ) (d : List ℕ) (next calls' : ℕ) (d' : List ℕ) : Type 0 where
   pub made : ℕ

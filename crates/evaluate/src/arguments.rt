@@ -1,4 +1,7 @@
 // The refusals of evaluate, decode and output_tokens once the circuit is accepted, in order (01, Operations): nothing is written here.
+// A circuit and its sizes stay apart: contracts name the bytes alone (`Accepted`), and a struct of both would write
+// `circuit.now.bytes.now` in each. That sizes are an accepted circuit's (`Bounded`) is no part of `Sizes`, since
+// `sizes_of` of the model makes them of any bytes; a second type of sizes would be taken apart wherever they are used.
 ghost use Rattle.std.specs.Prelude.{◌≡◌};
 ghost use Rattle.model.specs.Operations.{ran_of};
 ghost use Rattle.circuit.specs.Accepted.{Accepted, Bounded};
@@ -6,7 +9,7 @@ ghost use Rattle.evaluate.specs.Answers.{rest_verdict, output_arguments};
 
 use circuit::arguments::{check_room, check_tokens};
 use material::check_material;
-use model::{Ran, Sizes};
+use model::{Refusal, Sizes};
 
 // 11 for a list of `due` tokens, 12 to 18, and 19 for the bytes that will be written to a buffer of length `room`.
 pub fn check_rest(
@@ -17,26 +20,20 @@ pub fn check_rest(
     material: &[u8],
     bytes: usize,
     room: usize,
-) -> Ran
+) -> Result<(), Refusal>
     requires { Accepted circuit.now z }
     ensures { ran_of result ≡ rest_verdict circuit.now due tokens.now material.now bytes room }
 {
-    match check_tokens(due, tokens) {
-        Ran::Refused(f) => Ran::Refused(f),
-        Ran::Done => match check_material(circuit, z, material) {
-            Ran::Refused(f) => Ran::Refused(f),
-            Ran::Done => check_room(bytes, room),
-        },
-    }
+    check_tokens(due, tokens)?;
+    check_material(circuit, z, material)?;
+    check_room(bytes, room)
 }
 
 // 11 for the tokens of all wires, and 19 for the tokens of the outputs.
-pub fn output_arguments(z: Sizes, wires: &[u8], room: usize) -> Ran
+pub fn output_arguments(z: Sizes, wires: &[u8], room: usize) -> Result<(), Refusal>
     requires { Bounded z }
     ensures { ran_of result ≡ output_arguments z wires.now room }
 {
-    match check_tokens(z.n + z.q, wires) {
-        Ran::Refused(f) => Ran::Refused(f),
-        Ran::Done => check_room(16 * z.m, room),
-    }
+    check_tokens(z.n + z.q, wires)?;
+    check_room(16 * z.m, room)
 }

@@ -1,28 +1,16 @@
-use borrow.Author.Rules.{rules}
-use Rattle.model.proofs.Verdicts.{steps}
+use Rattle.model.proofs.Verdicts.{steps, ran_passed}
 use Rattle.evaluate.specs.Answers.{rest_verdict}
 use Rattle.evaluate.proofs.arguments.check_rest.Goals as goal
 
-pub check_tokens-requires : goal.check_tokens-requires
+pub returns-in_err-check_tokens : goal.returns-in_err-check_tokens
 unfolding rest_verdict
-check_tokens-requires c = search rules
+returns-in_err-check_tokens c = ran_passed _ _ c.from_residual.ensures.1 _ (search (steps, c.in_err-check_tokens.was) depth 8)
 
-pub check_material-requires : goal.check_material-requires
+pub returns-in_err-check_material : goal.returns-in_err-check_material
 unfolding rest_verdict
-check_material-requires c = search rules
+returns-in_err-check_material c = ran_passed _ _ c.from_residual-in_err-check_material.ensures.1 _
+    (search (steps, c.in_ok-check_tokens.was, c.in_err-check_material.was) depth 10)
 
-pub check_room-requires : goal.check_room-requires
+pub returns : goal.returns
 unfolding rest_verdict
-check_room-requires c = search rules
-
-pub returns-in-Refused : goal.returns-in-Refused
-unfolding rest_verdict
-returns-in-Refused c = search steps depth 8
-
-pub returns-in-Refused-check_material : goal.returns-in-Refused-check_material
-unfolding rest_verdict
-returns-in-Refused-check_material c = search steps depth 8
-
-pub returns-in-Done-check_material : goal.returns-in-Done-check_material
-unfolding rest_verdict
-returns-in-Done-check_material c = search steps depth 8
+returns c = search (steps, c.in_ok-check_tokens.was, c.in_ok-check_material.was) depth 10

@@ -1,20 +1,11 @@
-use borrow.Author.Rules.{rules}
-use Rattle.model.proofs.Verdicts.{steps}
+use Rattle.model.proofs.Verdicts.{steps, ran_passed}
 use Rattle.evaluate.specs.Answers.{output_arguments}
 use Rattle.evaluate.proofs.arguments.output_arguments.Goals as goal
 
-pub check_tokens-requires : goal.check_tokens-requires
+pub returns-in_err-check_tokens : goal.returns-in_err-check_tokens
 unfolding output_arguments
-check_tokens-requires c = search rules
+returns-in_err-check_tokens c = ran_passed _ _ c.from_residual.ensures.1 _ (search (steps, c.in_err-check_tokens.was) depth 8)
 
-pub check_room-requires : goal.check_room-requires
+pub returns : goal.returns
 unfolding output_arguments
-check_room-requires c = search rules
-
-pub returns-in-Refused : goal.returns-in-Refused
-unfolding output_arguments
-returns-in-Refused c = search steps depth 8
-
-pub returns-in-Done : goal.returns-in-Done
-unfolding output_arguments
-returns-in-Done c = search steps depth 8
+returns c = search (steps, c.in_ok-check_tokens.was) depth 8

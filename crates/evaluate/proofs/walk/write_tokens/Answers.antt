@@ -7,8 +7,14 @@ bounds-material-2 c = search walk_turns
 pub loop-k-init : goal.loop-k-init
 loop-k-init c = search walk_turns
 
-pub write_token_at-s-requires-clause-open_start : goal.write_token_at-s-requires-clause-open_start
-write_token_at-s-requires-clause-open_start c = search walk_turns
+pub gate_at-requires : goal.gate_at-requires
+gate_at-requires c = (search walk_turns, search walk_turns)
+
+pub write_token-s-requires-clause-token_start : goal.write_token-s-requires-clause-token_start
+write_token-s-requires-clause-token_start c = search walk_turns
+
+pub write_token-s-requires-clause-few_calls : goal.write_token-s-requires-clause-few_calls
+write_token-s-requires-clause-few_calls c = search walk_turns
 
 pub loop-k-preserved : goal.loop-k-preserved
 loop-k-preserved c = search walk_turns

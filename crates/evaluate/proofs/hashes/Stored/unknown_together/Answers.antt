@@ -1,6 +1,6 @@
 use Rattle.model.proofs.Verdicts.{together_start, together_end}
 use Rattle.evaluate.proofs.KnownLaws.{token_together}
-use Rattle.evaluate.proofs.hashes.unknown_together.Goals as goal
+use Rattle.evaluate.proofs.hashes.Stored.unknown_together.Goals as goal
 
 pub loop-i-init : goal.loop-i-init
 loop-i-init c = search together_start

@@ -1,5 +1,5 @@
 use Rattle.evaluate.proofs.KnownLaws.{compare_done}
-use Rattle.evaluate.proofs.hashes.compare_output.Goals as goal
+use Rattle.evaluate.proofs.hashes.Stored.compare.Goals as goal
 
 pub returns : goal.returns
 returns c = compare_done _ _ _ _ _ _ _ _ c.load-x.ensures c.hash_output-h.ensures.is_x c.load.ensures c.load-2.ensures _

@@ -1,23 +1,11 @@
 use Rattle.evaluate.proofs.WalkLaws.{step_cases}
-use Rattle.evaluate.proofs.walk.write_token_at.Goals as goal
-
-pub gate_at-g-requires : goal.gate_at-g-requires
-gate_at-g-requires c = (search step_cases, search step_cases)
-
-pub used_charge-requires : goal.used_charge-requires
-used_charge-requires c = search step_cases
-
-pub write_free-requires-clause-operands : goal.write_free-requires-clause-operands
-write_free-requires-clause-operands c = search step_cases
+use Rattle.evaluate.proofs.walk.Opening.write_token.Goals as goal
 
 pub write_free-requires-clause-code_value : goal.write_free-requires-clause-code_value
 write_free-requires-clause-code_value c = search step_cases
 
 pub returns-then-used_charge-eq0 : goal.returns-then-used_charge-eq0
 returns-then-used_charge-eq0 c = search step_cases
-
-pub write_charged-made-requires-clause-operands : goal.write_charged-made-requires-clause-operands
-write_charged-made-requires-clause-operands c = search step_cases
 
 pub write_charged-made-requires-clause-record_room : goal.write_charged-made-requires-clause-record_room
 write_charged-made-requires-clause-record_room c = search step_cases
