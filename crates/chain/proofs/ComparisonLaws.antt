@@ -3,6 +3,7 @@ use Prim.Native.Nat.{ℕ, ◌≤◌, ◌<◌, ◌^◌}
 use mathlib.Core.Path.{◌≡◌, sym, ap, ◌∙◌}
 use mathlib.Core.List.{List}
 use lib.ListN.{length}
+use Rattle.std.specs.Prelude.{Result, Ok, Err}
 use Rattle.model.specs.declared.Sizes.{Sizes}
 use Rattle.model.specs.declared.Wanted.{Wanted}
 use Rattle.model.specs.Circuit.{outputs}
@@ -14,7 +15,7 @@ use Rattle.comparator.specs.Compares.{figures, Compares}
 use Rattle.comparator.specs.Comparator.{comparator_bytes}
 use Rattle.comparator.proofs.FigureLaws.{figures_long, figures_bits}
 use Rattle.comparator.proofs.CompareLaws.{compares}
-use Rattle.chain.specs.declared.Chained.{Chained}
+use Rattle.chain.specs.declared.Stopped.{Stopped}
 use Rattle.chain.specs.Chain.{ChainIs}
 use Rattle.chain.specs.Comparison.{Compared, ComparisonHolds}
 
@@ -37,13 +38,13 @@ module _ (w : ℕ) (c : List ℕ) (is : Compares w c) where
 
   module _ (price ceiling : ℕ) (h : price < 2 ^ w) (l : ceiling < 2 ^ w) (seed : List ℕ) (want : Wanted) (a : Allowed c seed want (figures w price ceiling))
       (f z o t ws y b f' z' o' t' ws' y' b' : List ℕ) where
-    ended : (r : Chained) → ChainIs c seed want (figures w price ceiling) f z o t ws y b r f' z' o' t' ws' y' b' → Compared want price ceiling b' r
-    ended Chained.Done p = rw (rw one_output at p.bits_right.decoded) (is.at_most price ceiling h l)
-    ended (Chained.Garble e) p = p.only_these a
-    ended (Chained.Encode e) p = p.only_19 a
-    ended (Chained.Evaluate e) p = p.only_19
-    ended (Chained.Outputs e) p = p.only_19
-    ended (Chained.Decode e) p = p.only_19
+    ended : (r : Result Unit Stopped) → ChainIs c seed want (figures w price ceiling) f z o t ws y b r f' z' o' t' ws' y' b' → Compared want price ceiling b' r
+    ended (Ok _) p = rw (rw one_output at p.bits_right.decoded) (is.at_most price ceiling h l)
+    ended (Err (Stopped.Garble e)) p = p.only_these a
+    ended (Err (Stopped.Encode e)) p = p.only_19 a
+    ended (Err (Stopped.Evaluate e)) p = p.only_19
+    ended (Err (Stopped.Outputs e)) p = p.only_19
+    ended (Err (Stopped.Decode e)) p = p.only_19
 
   pub comparison : ComparisonHolds w c
   comparison = record {

@@ -6,6 +6,7 @@ use mathlib.Core.List.{List, map}
 use mathlib.Core.Bool.{Bool, true, false}
 use lib.Dec.{ltb}
 use lib.ListN.{length, take, length-map}
+use Rattle.model.specs.declared.Garbled.{Garbled}
 use Rattle.model.specs.declared.Wanted.{Wanted}
 use Rattle.model.specs.Bytes.{over}
 use Rattle.model.specs.Circuit.{circuit_of, inputs, outputs, gates}
@@ -13,7 +14,7 @@ use Rattle.model.specs.Tokens.{Garbling, wants_hashes, garbling_of}
 use Rattle.model.specs.Material.{material}
 use Rattle.model.specs.Evaluation.{output_tokens}
 use Rattle.model.specs.Refusals.{Verdict, fine, refused, refuse, ◌then◌, first_of, mark_verdict, room_verdict, clash_at, clash_verdict}
-use Rattle.model.specs.Operations.{no, yes, sizes_of, file_length, Made, garble_verdict, garble_made, evaluate_verdict, evaluate_calls_of, GarbleIs, EncodeIs, EvaluateIs, OutputTokensIs, DecodeIs}
+use Rattle.model.specs.Operations.{no, yes, sizes_of, file_length, garble_verdict, garble_made, evaluate_verdict, evaluate_calls_of, GarbleIs, EncodeIs, EvaluateIs, OutputTokensIs, DecodeIs}
 use Rattle.model.specs.Demand3.{Allowed, chain_material, chain_zeros, chain_ones, chain_inputs, chain_tokens, chain_bits, carries}
 use Rattle.model.proofs.Verdicts.{then_fine, yes_given, no_turned}
 use Rattle.model.proofs.Outputs.{outputs_many}
@@ -85,7 +86,7 @@ garble_refused c seed want v f z o f' z' o' i x answers permitted =
     (d.is_w ∙ sym d.is_v)
 
 -- ---- garble ran
-module _ (c seed : List ℕ) (want : Wanted) (f z o f' z' o' : List ℕ) (made : Made) (ran : GarbleIs c seed want f z o (yes made) f' z' o') where
+module _ (c seed : List ℕ) (want : Wanted) (f z o f' z' o' : List ℕ) (made : Garbled) (ran : GarbleIs c seed want f z o (yes made) f' z' o') where
   both_fine : (garble_verdict c seed want (length f) (length z) (length o) ≡ fine) × (clash_verdict (garbling_of c seed want) ≡ fine)
   both_fine = then_fine _ _ (yes_given _ made (garble_made c seed want) ran.answered).is_fine
 

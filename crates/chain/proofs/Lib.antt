@@ -2,9 +2,6 @@
 pub mod PartLaws
 pub mod HandLaws
 pub mod RightLaws
-pub mod DecodeLaws
-pub mod OutputLaws
-pub mod EvaluateLaws
-pub mod EncodeLaws
+pub mod StoppedLaws
 pub mod ChainLaws
 pub mod ComparisonLaws

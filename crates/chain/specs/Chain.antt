@@ -13,7 +13,7 @@
 --
 -- Letters: c is the circuit's bytes, v the value list. The seven buffers are the material f, the zero tokens z, the one tokens o, the
 -- encoded tokens t, the tokens of all wires w, those of the outputs y and the bits b; f', z', o', t', w', y', b' are they when the chain has ended.
-use Rattle.std.specs.Prelude.{ℕ, ◌+◌, ◌*◌, ◌≤◌, ◌≡◌, true, ◌↔◌, List, map, take}
+use Rattle.std.specs.Prelude.{ℕ, ◌+◌, ◌*◌, ◌≤◌, ◌≡◌, true, ◌↔◌, List, Result, Ok, Err, map, take}
 use Rattle.model.specs.declared.Wanted.{Wanted}
 use Rattle.model.specs.Circuit.{circuit_of, inputs, outputs, gates}
 use Rattle.model.specs.Aes.{block}
@@ -22,7 +22,7 @@ use Rattle.model.specs.Evaluation.{token_at}
 use Rattle.model.specs.Refusals.{Verdict, fine, refused, verdict_of}
 use Rattle.model.specs.Operations.{Answer, yes, no, file_length, garble_made, evaluate_calls_of, GarbleIs, EncodeIs, EvaluateIs, OutputTokensIs, DecodeIs}
 use Rattle.model.specs.Demand3.{Allowed, carries}
-use Rattle.chain.specs.declared.Chained.{Chained}
+use Rattle.chain.specs.declared.Stopped.{Stopped}
 
 -- on every wire k, the distance between the token in w' and the zero token in z'
 pub record WiresRight (c seed : List ℕ) (want : Wanted) (v z' w' : List ℕ) : Type 0 where
@@ -133,10 +133,10 @@ module _ (c seed : List ℕ) (want : Wanted) (v f z o t w y b f' z' o' t' w' y' 
     pub bits_right : BitsRight c v b'
 
 -- the chain's answer r, for every argument
-abbrev pub ChainIs : (c seed : List ℕ) (want : Wanted) (v f z o t w y b : List ℕ) → Chained → (f' z' o' t' w' y' b' : List ℕ) → Type 0
-ChainIs c seed want v f z o t w y b (Chained.Garble e) f' z' o' t' w' y' b' = EndedAtGarble c seed want v f z o t w y b f' z' o' t' w' y' b' (verdict_of e)
-ChainIs c seed want v f z o t w y b (Chained.Encode e) f' z' o' t' w' y' b' = EndedAtEncode c seed want v f z o t w y b f' z' o' t' w' y' b' (verdict_of e)
-ChainIs c seed want v f z o t w y b (Chained.Evaluate e) f' z' o' t' w' y' b' = EndedAtEvaluate c seed want v f z o t w y b f' z' o' t' w' y' b' (verdict_of e)
-ChainIs c seed want v f z o t w y b (Chained.Outputs e) f' z' o' t' w' y' b' = EndedAtOutputs c seed want v f z o t w y b f' z' o' t' w' y' b' (verdict_of e)
-ChainIs c seed want v f z o t w y b (Chained.Decode e) f' z' o' t' w' y' b' = EndedAtDecode c seed want v f z o t w y b f' z' o' t' w' y' b' (verdict_of e)
-ChainIs c seed want v f z o t w y b Chained.Done f' z' o' t' w' y' b' = Ended c seed want v f z o t w y b f' z' o' t' w' y' b'
+abbrev pub ChainIs : (c seed : List ℕ) (want : Wanted) (v f z o t w y b : List ℕ) → Result Unit Stopped → (f' z' o' t' w' y' b' : List ℕ) → Type 0
+ChainIs c seed want v f z o t w y b (Err (Stopped.Garble e)) f' z' o' t' w' y' b' = EndedAtGarble c seed want v f z o t w y b f' z' o' t' w' y' b' (verdict_of e)
+ChainIs c seed want v f z o t w y b (Err (Stopped.Encode e)) f' z' o' t' w' y' b' = EndedAtEncode c seed want v f z o t w y b f' z' o' t' w' y' b' (verdict_of e)
+ChainIs c seed want v f z o t w y b (Err (Stopped.Evaluate e)) f' z' o' t' w' y' b' = EndedAtEvaluate c seed want v f z o t w y b f' z' o' t' w' y' b' (verdict_of e)
+ChainIs c seed want v f z o t w y b (Err (Stopped.Outputs e)) f' z' o' t' w' y' b' = EndedAtOutputs c seed want v f z o t w y b f' z' o' t' w' y' b' (verdict_of e)
+ChainIs c seed want v f z o t w y b (Err (Stopped.Decode e)) f' z' o' t' w' y' b' = EndedAtDecode c seed want v f z o t w y b f' z' o' t' w' y' b' (verdict_of e)
+ChainIs c seed want v f z o t w y b (Ok _) f' z' o' t' w' y' b' = Ended c seed want v f z o t w y b f' z' o' t' w' y' b'

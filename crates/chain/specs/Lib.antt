@@ -1,4 +1,3 @@
--- Demand 3 of the bytes in the buffers (Chain), the same of a comparison (Comparison), and what each call hands to the next (Parts).
-pub mod Parts
+-- Demand 3 of the bytes in the buffers (Chain), and the same of a comparison (Comparison).
 pub mod Chain
 pub mod Comparison

@@ -1,5 +1,4 @@
 -- Laws of the functions.
-pub mod DigitLaws
 pub mod WriteLaws
 pub mod LineLaws
 pub mod TextLaws

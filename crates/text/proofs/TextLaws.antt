@@ -1,4 +1,5 @@
 -- The whole text: a law for each return. Assumes nothing.
+use Rattle.std.specs.Prelude.{Result, Ok, Err}
 use Prim.Native.Nat.{ℕ, ◌≤◌, ◌<◌}
 use native.Mathlib.Omega.{arith}
 use mathlib.Core.Path.{◌≡◌, ap, ◌∙◌}
@@ -7,10 +8,9 @@ use lib.ListN.{length, take, replicate}
 use lib.Seq.{take_at}
 use Rattle.model.specs.declared.Refusal.{Refusal}
 use Rattle.model.specs.declared.Sizes.{Sizes}
-use Rattle.model.specs.declared.Checked.{Checked}
 use Rattle.model.specs.Bytes.{over, put}
 use Rattle.model.specs.Refusals.{number_of, place_of}
-use Rattle.model.specs.Operations.{checked_of, check_answer}
+use Rattle.model.specs.Operations.{check_answer, answer_of}
 use Rattle.model.specs.Program.{sizes_line, lengths_line, refused_line, too_long_line, program_text}
 use Rattle.model.proofs.Program.{program_long, program_checked}
 use Rattle.circuit.specs.Accepted.{Accepted}
@@ -27,12 +27,12 @@ module _ (s o : List ℕ) (r : ℕ) (left : List ℕ) where
   pub text_long : 65536 < length s → Wrote 9 too_long_line o 0 r left → Wrote 147 (program_text s) o 0 r left
   text_long h w = as_text 9 too_long_line (program_text s) o r left (omega arith) (program_long s h) w
 
-  module _ (short : length s ≤ 65536) (t : Checked) (is_t : checked_of t ≡ check_answer s) where
-    pub text_refused : (f : Refusal) → t ≡ Checked.Refused f → Wrote 50 (refused_line (number_of f) (place_of f)) o 0 r left → Wrote 147 (program_text s) o 0 r left
+  module _ (short : length s ≤ 65536) (t : Result Sizes Refusal) (is_t : answer_of t ≡ check_answer s) where
+    pub text_refused : (f : Refusal) → t ≡ Err f → Wrote 50 (refused_line (number_of f) (place_of f)) o 0 r left → Wrote 147 (program_text s) o 0 r left
     text_refused f e w = as_text 50 _ (program_text s) o r left (omega arith) (program_checked s short ∙ rw (← check_refused s t is_t f e)) w
 
     pub text_accepted : (z : Sizes) (a : ℕ) (p : List ℕ)
-        → t ≡ Checked.Accepted z → 147 ≤ length o → Wrote 84 (sizes_line z) o 0 a p → Wrote 63 (lengths_line z.m z.p) p a r left
+        → t ≡ Ok z → 147 ≤ length o → Wrote 84 (sizes_line z) o 0 a p → Wrote 63 (lengths_line z.m z.p) p a r left
         → Wrote 147 (program_text s) o 0 r left
     text_accepted z a p e h w v = as_text 147 _ (program_text s) o r left (omega arith) (program_checked s short ∙ rw (known.accepted, ← known.sizes))
         (wrote_then 84 63 (sizes_line z) (lengths_line z.m z.p) o 0 a r p left (omega arith) w v)

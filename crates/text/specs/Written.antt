@@ -1,14 +1,7 @@
 -- What is known after text was written.
-use Rattle.std.specs.Prelude.{ℕ, ◌+◌, ◌≤◌, ◌<◌, ◌≡◌, List, length, take, drop}
+use Rattle.std.specs.Prelude.{ℕ, ◌+◌, ◌≤◌, ◌≡◌, List, length, take}
 use Rattle.model.specs.Bytes.{put}
-use Rattle.model.specs.Decimal.{decimal}
 use Rattle.model.specs.Program.{program_text}
-
--- the digits of a number stand at the end of an array of 20 bytes, from an index on
-pub record DigitsAre (x : ℕ) (bytes : List ℕ) (first : ℕ) : Type 0 where
-  pub are : drop first bytes ≡ decimal x
-  pub whole : length bytes ≡ 20
-  pub some : first < 20
 
 -- new bytes, at most so many, were written to a buffer at an index: what is left there, and the index past them
 pub record Wrote (most : ℕ) (new old : List ℕ) (at end : ℕ) (left : List ℕ) : Type 0 where

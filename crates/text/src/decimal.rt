@@ -1,48 +1,29 @@
-// A number in decimal, without leading zeros: the one place that writes numbers as text.
-ghost use Rattle.std.specs.Prelude.{◌≡◌, ◌+◌, ◌%◌, ◌≤◌, length};
-ghost use Rattle.model.specs.Decimal.{digit, decimal};
-ghost use Rattle.text.specs.Written.{DigitsAre, Wrote};
+// A number in decimal, without leading zeros: the one place that writes numbers as text. std's Display would write one too, but promises its
+// text only where it answers `Ok`, and nothing says that it does: `program_text` has no error to answer.
+ghost use Rattle.std.specs.Prelude.{[], ◌∷◌, ◌+◌, ◌<◌, ◌≤◌, length};
+ghost use Rattle.model.specs.Decimal.{decimal};
+ghost use Rattle.text.specs.Written.{Wrote};
 
-use buffer::copy_to;
-
-// A number's digits, at the end of an array: from the index `first` on.
-#[derive(Clone, Copy)]
-struct Digits {
-    bytes: [u8; 20],
-    first: usize,
-}
-
-// The last digit of a number, in ASCII.
-fn last_digit(x: usize) -> u8
-    ensures { result ≡ digit (x % 10) }
+// Writes a byte to an index of a buffer, and answers the index past it.
+#[tactic(auto, using(crate::proofs::WriteLaws::byte_written))]
+pub(crate) fn write_byte(out: &mut [u8], at: usize, byte: u8) -> usize
+    requires { at < length out.old }
+    ensures { Wrote 1 (byte ∷ []) out.old at result out.new }
 {
-    b'0' + (x % 10) as u8
+    out[at] = byte;
+    at + 1
 }
 
-// The digits of a number, found from the last on, which is what division by 10 leaves over. A number of 64 bits has at most 20.
-fn digits_of(x: usize) -> Digits
-    ensures { DigitsAre x result.bytes result.first }
-{
-    let mut bytes = [b'0'; 20];
-    let mut first: usize = 19;
-    let mut rest = x;
-    while 10 <= rest {
-        bytes[first] = last_digit(rest);
-        first -= 1;
-        rest /= 10;
-    }
-    bytes[first] = last_digit(rest);
-    Digits { bytes, first }
-}
-
-// Writes a number to an index of a buffer, and answers the index past it.
+// Writes a number to an index of a buffer, and answers the index past it: what it has of tens, and then its last digit. A number of 64 bits
+// has at most 20 digits.
 pub fn write_decimal(out: &mut [u8], at: usize, x: usize) -> usize
     requires { at + length (decimal x) ≤ length out.old }
     ensures { Wrote 20 (decimal x) out.old at result out.new }
 {
-    let d = digits_of(x);
-    let bytes = d.bytes;
-    let first = d.first;
-    copy_to(&bytes[first..], out, at);
-    at + (20 - first)
+    let digit = b'0' + (x % 10) as u8;
+    if x < 10 {
+        return write_byte(out, at, digit);
+    }
+    let last = write_decimal(out, at, x / 10);
+    write_byte(out, last, digit)
 }

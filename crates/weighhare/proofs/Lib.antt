@@ -1,4 +1,3 @@
 -- Laws of the functions.
-pub mod OutLaws
-pub mod HandedLaws
 pub mod PickLaws
+pub mod WantedLaws

@@ -1,61 +1,69 @@
 // How an answer is set out for a caller in C: the refusal's number, which is returned, and four words.
-ghost use Rattle.std.specs.Prelude.{◌≡◌, ◌∷◌, []};
-ghost use Rattle.model.specs.Refusals.{verdict_of};
-ghost use Rattle.model.specs.Operations.{ran_of, evaluated_of, wrote_of};
-ghost use Rattle.weighhare.specs.Out.{out, verdict_out, number_out};
+ghost use Rattle.std.specs.Prelude.{◌≡◌, ℕ, List};
+ghost use Rattle.model.specs.Operations.{answer_of};
+ghost use Rattle.weighhare.specs.Out.{out, answer_out, no_words, number_words, sizes_words, made_words};
 
-use circuit::refusal::number_and_place;
-use model::{Evaluated, Ran, Refusal, Wrote};
+use circuit::refusal::Turned;
+use model::{Garbled, Refusal, Sizes};
 
-// Results, and no refusal.
-pub fn results(
-    answer: &mut [u64; 4],
-    first: usize,
-    second: usize,
-    third: usize,
-    fourth: usize,
-) -> u8
-    ensures { out result answer.new ≡ out 0 (first ∷ second ∷ third ∷ fourth ∷ []) }
-{
-    *answer = [first as u64, second as u64, third as u64, fourth as u64];
-    0
+// What an operation answers where nothing refuses, as four words.
+pub trait Words {
+    ghost words_of: { Self → List ℕ };
+
+    fn words(self) -> [u64; 4]
+        ensures { result ≡ words_of self };
 }
 
-// A refusal: its place in the first word.
-pub fn refused(answer: &mut [u64; 4], f: Refusal) -> u8
-    ensures { out result answer.new ≡ verdict_out (verdict_of f) }
-{
-    let t = number_and_place(f);
-    *answer = [t.place as u64, 0, 0, 0];
-    t.number
+// Of an operation that has no results but the bytes that it writes, all are 0.
+impl Words for () {
+    ghost words_of = { no_words };
+
+    fn words(self) -> [u64; 4] {
+        [0; 4]
+    }
 }
 
-// The answer of an operation that has no results but the bytes that it writes.
-pub fn ran(answer: &mut [u64; 4], done: Ran) -> u8
-    ensures { out result answer.new ≡ verdict_out (ran_of done) }
+// One number, in the first word: the encryptions of an evaluation, or the length of a circuit that was written.
+impl Words for usize {
+    ghost words_of = { number_words };
+
+    fn words(self) -> [u64; 4] {
+        [self as u64, 0, 0, 0]
+    }
+}
+
+// n, m, q, p.
+impl Words for Sizes {
+    ghost words_of = { sizes_words };
+
+    fn words(self) -> [u64; 4] {
+        [self.n as u64, self.m as u64, self.q as u64, self.p as u64]
+    }
+}
+
+// The material's length and the encryptions.
+impl Words for Garbled {
+    ghost words_of = { made_words };
+
+    fn words(self) -> [u64; 4] {
+        [self.length as u64, self.calls as u64, 0, 0]
+    }
+}
+
+// Sets out an operation's answer: the words of its results, and 0; or a refusal's place in the first word, and its number.
+// A number and four words, with 0 for no refusal: so the C interface has it.
+pub fn answered<T: Words>(answer: &mut [u64; 4], done: Result<T, Refusal>) -> u8
+    ensures { out result answer.new ≡ answer_out T.words_of (answer_of done) }
 {
     match done {
-        Ran::Refused(f) => refused(answer, f),
-        Ran::Done => results(answer, 0, 0, 0, 0),
-    }
-}
-
-// The answer of an evaluation: the encryptions in the first word.
-pub fn evaluated(answer: &mut [u64; 4], e: Evaluated) -> u8
-    ensures { out result answer.new ≡ number_out (evaluated_of e) }
-{
-    match e {
-        Evaluated::Refused(f) => refused(answer, f),
-        Evaluated::Done(calls) => results(answer, calls, 0, 0, 0),
-    }
-}
-
-// The answer of what writes a circuit: its length in the first word.
-pub fn wrote(answer: &mut [u64; 4], w: Wrote) -> u8
-    ensures { out result answer.new ≡ number_out (wrote_of w) }
-{
-    match w {
-        Wrote::Refused(f) => refused(answer, f),
-        Wrote::Done(length) => results(answer, length, 0, 0, 0),
+        Ok(results) => {
+            *answer = results.words();
+            0
+        }
+        Err(refusal) => {
+            let turned = Turned::from(refusal);
+            *answer = [turned.place as u64, 0, 0, 0];
+            turned.number
+        }
     }
 }

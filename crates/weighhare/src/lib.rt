@@ -1,5 +1,8 @@
 // The C interface: the operations of 01 and of 02 as exported functions, declared and explained in include/weighhare.h. Each returns the
 // refusal's number, 0 if none, and sets out the rest of its answer in four words.
+// The C interface has each function by its name, and what each takes: numbers for scheme, mark, wire and bit, and each
+// buffer by itself. What they answer is said by one clause, `Handed`, in each: no type can say it, since C reads a
+// number and four words.
 #![tactic(auto)]
 
 ghost use Rattle.std.specs.Prelude.{◌≡◌};
@@ -8,20 +11,19 @@ ghost use Rattle.comparator.specs.Comparator.{ComparatorIs};
 ghost use Rattle.weighhare.specs.Out.{Handed, verdict_out, sizes_out, made_out, number_out};
 ghost use Rattle.weighhare.specs.Pick.{PickIs, part_out};
 
-use crate::answer::{evaluated, ran, refused, results, wrote};
-use model::{Checked, Garbled, Gate, Ran, Wanted, Wire};
+use crate::answer::answered;
+use crate::pick::picked;
+use model::{Gate, Wanted};
 
 pub mod answer;
+pub mod pick;
 
 // Check: n, m, q, p.
 #[unsafe(no_mangle)]
 pub extern "C" fn weighhare_check(circuit: &[u8], answer: &mut [u64; 4]) -> u8
     ensures { Handed (λ x. x ≡ check_answer circuit.now) sizes_out result answer.new }
 {
-    match circuit::check(circuit) {
-        Checked::Refused(f) => refused(answer, f),
-        Checked::Accepted(z) => results(answer, z.n, z.m, z.q, z.p),
-    }
+    answered(answer, circuit::check(circuit))
 }
 
 // Plain: the value of every wire.
@@ -34,8 +36,7 @@ pub extern "C" fn weighhare_plain(
 ) -> u8
     ensures { Handed (λ x. PlainIs circuit.now values.now wires.old x wires.new) verdict_out result answer.new }
 {
-    let done = circuit::plain(circuit, values, wires);
-    ran(answer, done)
+    answered(answer, circuit::plain(circuit, values, wires))
 }
 
 // Garble: material of the mark wanted, zero tokens, one tokens; the material's length and the encryptions. Refusal 30 leaves zeros.
@@ -54,10 +55,10 @@ pub extern "C" fn weighhare_garble(
     ensures { Handed (λ x. GarbleIs circuit.now seed.now (record { run = run; scheme = scheme; mark = mark }) material.old zeros.old ones.old x material.new zeros.new ones.new) made_out result answer.new }
 {
     let wanted = Wanted { run, scheme, mark };
-    match garble::garble(circuit, seed, wanted, material, zeros, ones) {
-        Garbled::Refused(f) => refused(answer, f),
-        Garbled::Done { length, calls } => results(answer, length, calls, 0, 0),
-    }
+    answered(
+        answer,
+        garble::garble(circuit, seed, wanted, material, zeros, ones),
+    )
 }
 
 // Encode: the inputs' tokens for their values.
@@ -72,8 +73,7 @@ pub extern "C" fn weighhare_encode(
 ) -> u8
     ensures { Handed (λ x. EncodeIs circuit.now values.now zeros.now ones.now tokens.old x tokens.new) verdict_out result answer.new }
 {
-    let done = garble::encode(circuit, values, zeros, ones, tokens);
-    ran(answer, done)
+    answered(answer, garble::encode(circuit, values, zeros, ones, tokens))
 }
 
 // Evaluate: the tokens of all wires; the encryptions.
@@ -87,8 +87,7 @@ pub extern "C" fn weighhare_evaluate(
 ) -> u8
     ensures { Handed (λ x. EvaluateIs circuit.now tokens.now material.now wires.old x wires.new) number_out result answer.new }
 {
-    let e = evaluate::evaluate(circuit, tokens, material, wires);
-    evaluated(answer, e)
+    answered(answer, evaluate::evaluate(circuit, tokens, material, wires))
 }
 
 // The same over a list of gate records.
@@ -104,8 +103,10 @@ pub extern "C" fn weighhare_evaluate_gates(
 ) -> u8
     ensures { Handed (λ x. EvaluateGatesIs n m gates.now tokens.now material.now wires.old x wires.new) number_out result answer.new }
 {
-    let e = evaluate::list::evaluate_gates(n, m, gates, tokens, material, wires);
-    evaluated(answer, e)
+    answered(
+        answer,
+        evaluate::list::evaluate_gates(n, m, gates, tokens, material, wires),
+    )
 }
 
 // The outputs' tokens, in their order.
@@ -118,8 +119,7 @@ pub extern "C" fn weighhare_output_tokens(
 ) -> u8
     ensures { Handed (λ x. OutputTokensIs circuit.now wires.now tokens.old x tokens.new) verdict_out result answer.new }
 {
-    let done = evaluate::output_tokens(circuit, wires, tokens);
-    ran(answer, done)
+    answered(answer, evaluate::output_tokens(circuit, wires, tokens))
 }
 
 // Decode: the outputs' bits.
@@ -133,8 +133,7 @@ pub extern "C" fn weighhare_decode(
 ) -> u8
     ensures { Handed (λ x. DecodeIs circuit.now tokens.now material.now bits.old x bits.new) verdict_out result answer.new }
 {
-    let done = evaluate::decode(circuit, tokens, material, bits);
-    ran(answer, done)
+    answered(answer, evaluate::decode(circuit, tokens, material, bits))
 }
 
 // Pick: which list, 0 for the zero tokens and 1 for the one tokens; where in it the wire's token starts; its length, 16.
@@ -148,10 +147,7 @@ pub extern "C" fn weighhare_pick(
 ) -> u8
     ensures { Handed (PickIs zeros.now ones.now wire bit) part_out result answer.new }
 {
-    match garble::pick_check(zeros, ones, Wire(wire), bit) {
-        Ran::Refused(f) => refused(answer, f),
-        Ran::Done => results(answer, bit as usize, 16 * (wire as usize - 1), 16, 0),
-    }
+    answered(answer, picked(zeros, ones, wire, bit))
 }
 
 // Comparator: the circuit for a width; its length.
@@ -159,6 +155,5 @@ pub extern "C" fn weighhare_pick(
 pub extern "C" fn weighhare_comparator(width: u64, circuit: &mut [u8], answer: &mut [u64; 4]) -> u8
     ensures { Handed (λ x. ComparatorIs width circuit.old x circuit.new) number_out result answer.new }
 {
-    let w = comparator::comparator(width as usize, circuit);
-    wrote(answer, w)
+    answered(answer, comparator::comparator(width as usize, circuit))
 }

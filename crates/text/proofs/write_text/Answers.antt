@@ -9,8 +9,8 @@ returns-then-input-gt65536 c = search text_long
 pub write_lengths-requires : goal.write_lengths-requires
 write_lengths-requires c = (search rules, search check_outputs, search check_charges)
 
-pub returns-in-Refused : goal.returns-in-Refused
-returns-in-Refused c = search text_refused
+pub returns-in-Err : goal.returns-in-Err
+returns-in-Err c = search text_refused
 
-pub returns-in-Accepted : goal.returns-in-Accepted
-returns-in-Accepted c = search text_accepted
+pub returns-in-Ok : goal.returns-in-Ok
+returns-in-Ok c = search text_accepted
