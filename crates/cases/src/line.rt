@@ -1,37 +1,20 @@
 // Lines of hexadecimal fields, one space between two fields; "--" stands for no byte.
-ghost use Rattle.std.specs.Prelude.{◌+◌, ◌≤◌, ◌<◌, length};
-ghost use Rattle.cases.specs.Fields.{FieldFits, FourFit, CutsFit};
+ghost use Rattle.std.specs.Prelude.{◌<◌, length};
 
-// Where a field ends in the buffer that it was decoded to, and in the text.
-#[derive(Clone, Copy)]
-struct Field {
-    end: usize,
-    next: usize,
-}
+use crate::room::{HALF, room};
 
-// Where four fields end in the buffer that they were decoded to, and the last of them in the text.
-#[derive(Clone, Copy)]
-struct Four {
-    a: usize,
-    b: usize,
-    c: usize,
-    d: usize,
-    next: usize,
-}
+// The fields of a case. Those that its line lacks are empty.
+pub type Case<'a> = [&'a [u8]; 7];
 
-// Where seven fields end in the buffer that they were decoded to, the first from its start.
+// How many cases there were, and how many agreed.
 #[derive(Clone, Copy)]
-pub struct Cuts {
-    pub a: usize,
-    pub b: usize,
-    pub c: usize,
-    pub d: usize,
-    pub e: usize,
-    pub f: usize,
-    pub g: usize,
+pub struct Tally {
+    pub cases: usize,
+    pub agreed: usize,
 }
 
 // A hexadecimal digit's value; 0 for any other byte.
+// No `None` and no `to_digit`, which takes capitals too: the programs read every other byte as 0, whatever the file.
 fn digit(c: u8) -> u8
     ensures { result < 16 }
 {
@@ -42,99 +25,65 @@ fn digit(c: u8) -> u8
     }
 }
 
-// An index, or the one after it where a space stands there.
-fn past_space(text: &[u8], at: usize) -> usize
-    requires { at ≤ length text.now }
-    ensures { (at ≤ result) × (result ≤ length text.now) }
-{
-    if text.len() <= at {
-        return at;
-    }
-    if text[at] == b' ' {
-        return at + 1;
-    }
-    at
-}
-
-// The byte of the two digits at an index, put after the first len bytes of a buffer, if it has room; answers how many there are now.
-fn push_byte(text: &[u8], i: usize, out: &mut [u8], len: usize) -> usize
-    requires { (i + 1 < length text.now) × (len ≤ length out.old) }
-    ensures { (len ≤ result) × (result ≤ length out.old) }
-{
-    if text[i] == b'-' {
-        return len;
-    }
-    if out.len() <= len {
-        return len;
-    }
-    out[len] = digit(text[i]) * 16 + digit(text[i + 1]);
-    len + 1
-}
-
-// The field at an index of a line, or after the space there, decoded to a buffer after its first `from` bytes.
-fn read_field(text: &[u8], at: usize, out: &mut [u8], from: usize) -> Field
-    requires { (at ≤ length text.now) × (from ≤ length out.old) }
-    ensures { FieldFits text.now at out.old from result.end result.next }
-{
-    let mut i = past_space(text, at);
-    let mut end = from;
-    while i + 1 < text.len() {
-        if text[i] <= b' ' {
-            return Field { end, next: i };
+// The field at the front of a text, or after the space there, decoded to the front of a buffer, as far as there is room: the text after
+// it, its bytes, and the rest of the buffer. The length is counted, since a `-` writes nothing: a `zip` would go on in both.
+fn read_field<'t, 'b>(text: &'t [u8], buffer: &'b mut [u8]) -> (&'t [u8], &'b [u8], &'b mut [u8]) {
+    let text = text.strip_prefix(b" ").unwrap_or(text);
+    let (pairs, _) = text.as_chunks::<2>();
+    let end = pairs
+        .iter()
+        .position(|[high, _]| *high <= b' ')
+        .unwrap_or(pairs.len());
+    let mut len = 0;
+    for [high, low] in &pairs[..end] {
+        if *high != b'-' && len < buffer.len() {
+            buffer[len] = digit(*high) * 16 + digit(*low);
+            len += 1;
         }
-        end = push_byte(text, i, out, end);
-        i += 2;
     }
-    Field { end, next: i }
+    let (field, rest) = buffer.split_at_mut(len);
+    (&text[2 * end..], field, rest)
 }
 
-// Four fields from an index of a line on, one after the other in a buffer after its first `from` bytes.
-fn read_four(text: &[u8], at: usize, out: &mut [u8], from: usize) -> Four
-    requires { (at ≤ length text.now) × (from ≤ length out.old) }
-    ensures { FourFit text.now at out.old from result.a result.b result.c result.d result.next }
-{
-    let a = read_field(text, at, out, from);
-    let b = read_field(text, a.next, out, a.end);
-    let c = read_field(text, b.next, out, b.end);
-    let d = read_field(text, c.next, out, c.end);
-    Four {
-        a: a.end,
-        b: b.end,
-        c: c.end,
-        d: d.end,
-        next: d.next,
+// The fields of the first line of a text, one after the other in a buffer.
+pub fn read_case<'a>(text: &[u8], buffer: &'a mut [u8]) -> Case<'a> {
+    let mut case: Case<'a> = [&[]; 7];
+    let mut text = text;
+    let mut buffer = buffer;
+    for field in case.iter_mut() {
+        let (after, bytes, rest) = read_field(text, buffer);
+        *field = bytes;
+        text = after;
+        buffer = rest;
     }
+    case
 }
 
-// The seven fields of the line at an index, one after the other in a buffer; fields that the line lacks are empty.
-pub fn read_fields(text: &[u8], at: usize, out: &mut [u8]) -> Cuts
-    requires { at ≤ length text.now }
-    ensures { CutsFit out.old result.a result.b result.c result.d result.e result.f result.g }
+// What comes after the first line of a text.
+fn after_line(text: &[u8]) -> &[u8]
+    ensures { 0 < length text.now → length result.now < length text.now }
 {
-    let x = read_four(text, at, out, 0);
-    let y = read_four(text, x.next, out, x.d);
-    Cuts {
-        a: x.a,
-        b: x.b,
-        c: x.c,
-        d: x.d,
-        e: y.a,
-        f: y.b,
-        g: y.c,
+    match text.iter().position(|c| *c == b'\n') {
+        Some(at) => &text[at + 1..],
+        None => &[],
     }
 }
 
-// The index past the end of the line that an index is on.
-pub fn next_line(text: &[u8], at: usize) -> usize
-    requires { at < length text.now }
-    ensures { (at < result) × (result ≤ length text.now) }
+// All cases of a text, a line each. What tells whether one agrees is given the text from its line on, and a buffer for its fields. The
+// buffers of the cases are on the stack only here, and not while a file is read.
+#[inline(never)]
+pub fn agreements<F: Fn(&[u8], &mut [u8]) -> bool>(text: &[u8], agrees: F) -> Tally
+    requires { F.IsAlwaysCallable agrees }
 {
-    let mut i = at;
-    while i < text.len() {
-        if text[i] == b'\n' {
-            return i + 1;
-        }
-        i += 1;
+    let mut buffer = room::<HALF>(0);
+    // Not split at the ends of lines: a field with half a byte before its line's end goes on past it.
+    let mut rest = text;
+    let mut cases = 0;
+    let mut agreed = 0;
+    while !rest.is_empty() {
+        agreed += usize::from(agrees(rest, &mut buffer));
+        cases += 1;
+        rest = after_line(rest);
     }
-    i
+    Tally { cases, agreed }
 }

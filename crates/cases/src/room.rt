@@ -1,31 +1,23 @@
-// Room for the cases. Each array has a function of its own, so that no proof has to look at so many bytes; what is said of
-// one is its length, which lending it as a slice needs. An operation's buffers are made where it is called, every byte the one given.
+// Room for the cases: arrays on the stack, every byte the one given, since there is no heap. An operation's buffers are made where it
+// is called.
 ghost use Rattle.std.specs.Prelude.{◌≡◌, length};
 
-// Two to the power 20: a file of cases, a large material, or the zero tokens of 65,535 wires.
-pub fn most(value: u8) -> [u8; 1048576]
-    ensures { 1048576 ≡ length result }
-{
-    [value; 1048576]
-}
+// A file of cases, a large material, or the zero tokens of 65,535 wires.
+pub const MOST: usize = 1048576;
 
 // The fields of one case, or a circuit of 65,533 gates.
-pub fn half() -> [u8; 524288]
-    ensures { 524288 ≡ length result }
-{
-    [0; 524288]
-}
+pub const HALF: usize = 524288;
 
 // The tokens of 4,096 inputs and of some gates.
-pub fn more(value: u8) -> [u8; 131072]
-    ensures { 131072 ≡ length result }
-{
-    [value; 131072]
-}
+pub const MORE: usize = 131072;
 
 // The tokens of 4,096 inputs.
-pub fn some(value: u8) -> [u8; 65536]
-    ensures { 65536 ≡ length result }
+pub const SOME: usize = 65536;
+
+// An array of one byte over and over. Written where it is used, `[value; 1048576]` gets no proof: the check runs out of stack where a
+// slice of it is taken.
+pub fn room<const N: usize>(value: u8) -> [u8; N]
+    ensures { N ≡ length result }
 {
-    [value; 65536]
+    [value; N]
 }

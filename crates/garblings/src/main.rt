@@ -1,10 +1,12 @@
 // The test program of garble: garblings made by others against the proved function. Each file of data/ has a case a line, and
 // each prints how many of its cases agree.
+// Each file is a call that hands over what runs its cases. Each function is of a type of its own, so a table of names
+// and functions would need function pointers or `dyn`, and a loop over it: no plainer.
 #![tactic(auto)]
 
-use crate::text::run;
-use cases::file::{print_tally, read_file};
-use cases::room;
+use crate::garbler::garble;
+use crate::large::large;
+use cases::file::{run, run_lines};
 use std::fs::Files;
 use std::io;
 use std::io::Print;
@@ -13,34 +15,26 @@ mod fingerprint;
 mod garbler;
 mod large;
 mod rule;
-mod text;
-
-// The cases of one file, each of them large or none.
-fn run_file<R: Files + Print>(rt: &R, large: bool, path: &[u8]) -> io::Result<()> {
-    let mut text = room::most(0);
-    let len = read_file(rt, path, &mut text)?;
-    print_tally(rt, run(large, &text[..len]))
-}
 
 // Cases of a third reading of 01, and those of the second implementation.
 fn run_right<R: Files + Print>(rt: &R) -> io::Result<()> {
-    run_file(rt, false, b"garble")?;
-    run_file(rt, false, b"garble-generated")?;
-    run_file(rt, false, b"garble-one-operand")?;
-    run_file(rt, false, b"garble-runs")?;
-    run_file(rt, false, b"garble-rekeyed")?;
-    run_file(rt, false, b"garble-named")?;
-    run_file(rt, false, b"garble-hashed")?;
-    run_file(rt, false, b"garble-no-room")?;
-    run_file(rt, true, b"garble-large")?;
-    run_file(rt, true, b"garble-large-rekeyed")
+    run(rt, "garble", garble)?;
+    run(rt, "garble-generated", garble)?;
+    run(rt, "garble-one-operand", garble)?;
+    run(rt, "garble-runs", garble)?;
+    run(rt, "garble-rekeyed", garble)?;
+    run(rt, "garble-named", garble)?;
+    run(rt, "garble-hashed", garble)?;
+    run(rt, "garble-no-room", garble)?;
+    run_lines(rt, "garble-large", "", large)?;
+    run_lines(rt, "garble-large-rekeyed", "", large)
 }
 
 // Cases that are wrong on purpose: right ones in which one thing that is compared was changed. None may agree, or the
 // comparison compares nothing.
 fn run_wrong<R: Files + Print>(rt: &R) -> io::Result<()> {
-    run_file(rt, false, b"wrong-garble")?;
-    run_file(rt, true, b"wrong-garble-large")
+    run(rt, "wrong-garble", garble)?;
+    run_lines(rt, "wrong-garble-large", "", large)
 }
 
 fn main(rt: HostRuntime) -> io::Result<()> {

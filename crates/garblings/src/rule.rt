@@ -3,107 +3,73 @@
 // others are free, code 6 where i/2 is even and 9 where it is odd.
 ghost use Rattle.std.specs.Prelude.{◌+◌, ◌*◌, ◌<◌, ◌≤◌, length};
 
-use buffer::{copy_front, copy_to};
-
 // Inputs, outputs, gates, the period (0 where no gate is charged), and where the generator starts.
+// 0 and no `Option`: the case has these two bytes, and `code` would take it apart where it now compares. No `Sizes` of
+// the model beside the rest: a rule has no p.
 #[derive(Clone, Copy)]
 pub struct Rule {
-    pub n: usize,
+    pub n: u16,
     pub m: usize,
-    pub q: usize,
+    pub q: u16,
     pub period: usize,
-    pub start: usize,
+    pub start: u32,
 }
+
+// The codes of charged gates.
+const CHARGED: [u8; 8] = [1, 2, 4, 7, 8, 11, 13, 14];
 
 // The next number of the generator.
-fn next(x: usize) -> usize
-    requires { x < 4294967296 }
-    ensures { result < 4294967296 }
-{
-    x * 48271 % 2147483647
-}
-
-// A number below a bound, which is not 0.
-fn below(x: usize, bound: usize) -> usize
-    requires { 0 < bound }
-    ensures { result < bound }
-{
-    x % bound
-}
-
-// A charged code, of the eight.
-fn charged(k: usize) -> u8 {
-    match k % 8 {
-        0 => 1,
-        1 => 2,
-        2 => 4,
-        3 => 7,
-        4 => 8,
-        5 => 11,
-        6 => 13,
-        _ => 14,
-    }
+fn next(x: u32) -> u32 {
+    (u64::from(x) * 48271 % 2147483647) as u32
 }
 
 // The code of gate i.
+// The rule's three ways: a table of functions would still be chosen from by these tests.
 fn code(i: usize, period: usize) -> u8 {
-    if period != 0 {
-        if i % period == 0 {
-            return charged(i / period);
-        }
+    if period != 0 && i % period == 0 {
+        CHARGED[i / period % 8]
+    } else if i / 2 % 2 == 0 {
+        6
+    } else {
+        9
     }
-    if i / 2 % 2 == 0 { 6 } else { 9 }
 }
 
-// The two bytes of a number, big-endian.
-fn high(x: usize) -> u8 {
-    (x / 256 % 256) as u8
-}
-
-fn low(x: usize) -> u8 {
-    (x % 256) as u8
-}
-
-// Writes gate i, for which the generator gave x and then y: a is 1 to own-2, and b is a+1 to own-1, where own is its wire.
-fn put_gate(s: &mut [u8], r: Rule, i: usize, x: usize, y: usize)
-    requires { (2 ≤ r.n) × (r.n < 65536) × (i < 65536) × (15 + 7 * i ≤ length s.old) }
+// The bytes of gate i, for which the generator gave x and then y: a is 1 to own-2, and b is a+1 to own-1, where own is its wire.
+// By value, for a loop over parts of 7 bytes: `write_gate` of circuit takes the whole buffer and a place in it, which
+// would have to be counted.
+fn gate(r: Rule, i: u16, x: u32, y: u32) -> [u8; 7]
+    requires { 2 ≤ r.n }
 {
-    let own = r.n + 1 + i;
-    let a = 1 + below(x, own - 2);
-    let b = a + 1 + below(y, own - 1 - a);
-    let record = [
-        0x43,
-        0x47,
-        high(a),
-        low(a),
-        high(b),
-        low(b),
-        code(i, r.period),
-    ];
-    copy_to(&record, s, 8 + 7 * i);
+    let own = u32::from(r.n) + 1 + u32::from(i);
+    let a = 1 + x % (own - 2);
+    let b = a + 1 + y % (own - 1 - a);
+    let [_, _, a_high, a_low] = a.to_be_bytes();
+    let [_, _, b_high, b_low] = b.to_be_bytes();
+    [
+        b'C',
+        b'G',
+        a_high,
+        a_low,
+        b_high,
+        b_low,
+        code(usize::from(i), r.period),
+    ]
 }
 
-// Writes the circuit.
+// Writes the circuit. In bytes of its own: were they those of `write_circuit_header` and `write_gate` of circuit, a mistake
+// that these share with the reader of the same crate, by which `garble` takes the circuit, would not show.
 pub fn put_circuit(s: &mut [u8], r: Rule)
-    requires { (2 ≤ r.n) × (r.n < 65536) × (r.q < 65536) × (r.start < 4294967296) × (8 + 7 * r.q ≤ length s.old) }
+    requires { (2 ≤ r.n) × (8 + 7 * r.q ≤ length s.old) }
 {
-    let header = [
-        0x43,
-        0x48,
-        high(r.n),
-        low(r.n),
-        high(r.m),
-        low(r.m),
-        high(r.q),
-        low(r.q),
-    ];
-    copy_front(&header, s);
+    let [n_high, n_low] = r.n.to_be_bytes();
+    let [_, _, _, _, _, _, m_high, m_low] = r.m.to_be_bytes();
+    let [q_high, q_low] = r.q.to_be_bytes();
+    s[..8].copy_from_slice(&[b'C', b'H', n_high, n_low, m_high, m_low, q_high, q_low]);
     let mut z = r.start;
-    let mut i: usize = 0;
-    while i < r.q {
+    for (i, record) in (0..r.q).zip(s[8..].chunks_exact_mut(7)) {
         let x = next(z);
         z = next(x);
-        put_gate(s, r, i, x, z);
-        i += 1;
+        record.copy_from_slice(&gate(r, i, x, z));
     }
 }

@@ -1,139 +1,146 @@
-// Whether a block enciphered under a key is the one due, by each form in which what enciphers stands.
-use aes::{encrypt, encrypt_each_under, encrypt_pair, expand_key, s_box, t_tables};
+// Whether a block enciphered under a key is the one due, by each form in which what enciphers stands. Where a form has more blocks or
+// keys than one, the others are the key and the plaintext, exchanged, so that it matters which of them is whose.
+use aes::{Pair, SBox, TTables, encrypt, encrypt_each_under, encrypt_pair, expand_key};
 use block::Block;
-use check::same;
+use cases::file::run_by;
+use cases::line::Case;
 use planes::{Four, encrypt_four, slice_one, slice_pair};
+use std::fs::Files;
+use std::io;
+use std::io::Print;
 
 // The 16 bytes of a field; a field of another length is taken for 16 zeros.
+// No `Option`, so that the program does on every line what it did. `padded` of garblings, which fills up with zeros,
+// is no twin.
 pub fn block_of(field: &[u8]) -> Block {
-    let mut bytes = [0u8; 16];
-    if field.len() == 16 {
-        buffer::copy_front(field, &mut bytes);
+    match field.as_array::<16>() {
+        Some(bytes) => Block { bytes: *bytes },
+        None => Block { bytes: [0; 16] },
     }
-    Block { bytes }
 }
 
-// Key, plaintext, ciphertext: by the steps of a round.
-pub fn encryption(key: &[u8], plaintext: &[u8], ciphertext: &[u8]) -> bool {
-    let t = s_box();
-    let w = expand_key(&t, block_of(key));
-    let c = encrypt(&t, &w, block_of(plaintext));
-    let bytes = c.bytes;
-    same(&bytes, ciphertext)
+// Whether a block is the one due.
+fn is(block: Block, due: &[u8]) -> bool {
+    block.bytes.as_slice() == due
 }
 
-// The same by the tables, as the first block of a pair. The other block is the key, so that it matters which of the two comes first.
-pub fn encryption_first(key: &[u8], plaintext: &[u8], ciphertext: &[u8]) -> bool {
-    let t = s_box();
-    let m = t_tables();
-    let k = block_of(key);
-    let w = expand_key(&t, k);
-    let p = encrypt_pair(&m, &w, block_of(plaintext), k);
-    let c = p.x;
-    let bytes = c.bytes;
-    same(&bytes, ciphertext)
+// The cases of a file, a key, a plaintext and a ciphertext each, by one form.
+fn run_form<R: Files + Print, F: Fn(Block, Block, &[u8]) -> bool>(
+    rt: &R,
+    name: &str,
+    by: &str,
+    agrees: F,
+) -> io::Result<()>
+    requires { (f : F) (key : _) (plaintext : _) (ciphertext : _) → F.pre f key plaintext ciphertext }
+{
+    run_by(
+        rt,
+        name,
+        by,
+        |[key, plaintext, ciphertext, ..]|
+            requires { (f : F) (key : _) (plaintext : _) (ciphertext : _) → F.pre f key plaintext ciphertext }
+        { agrees(block_of(key), block_of(plaintext), ciphertext) },
+    )
 }
 
-// The same as the second block of a pair.
-pub fn encryption_second(key: &[u8], plaintext: &[u8], ciphertext: &[u8]) -> bool {
-    let t = s_box();
-    let m = t_tables();
-    let k = block_of(key);
-    let w = expand_key(&t, k);
-    let p = encrypt_pair(&m, &w, k, block_of(plaintext));
-    let c = p.y;
-    let bytes = c.bytes;
-    same(&bytes, ciphertext)
+// Two blocks by the tables, under one key.
+fn pair(key: Block, x: Block, y: Block) -> Pair {
+    encrypt_pair(&TTables::new(), &expand_key(&SBox::new(), key), x, y)
 }
 
-// The same under a key that is expanded beside the blocks, a key each, as the first block. The other key is the plaintext, so that it matters which of the two is whose.
-pub fn each_first(key: &[u8], plaintext: &[u8], ciphertext: &[u8]) -> bool {
-    let m = t_tables();
-    let k = block_of(key);
-    let x = block_of(plaintext);
-    let p = encrypt_each_under(&m, k, x, x, k);
-    let c = p.x;
-    let bytes = c.bytes;
-    same(&bytes, ciphertext)
+// Two blocks, each under a key of its own, which is expanded beside it.
+fn each(i: Block, x: Block, j: Block, y: Block) -> Pair {
+    encrypt_each_under(&TTables::new(), i, x, j, y)
 }
 
-// The same as the second block.
-pub fn each_second(key: &[u8], plaintext: &[u8], ciphertext: &[u8]) -> bool {
-    let m = t_tables();
-    let k = block_of(key);
-    let x = block_of(plaintext);
-    let p = encrypt_each_under(&m, x, k, k, x);
-    let c = p.y;
-    let bytes = c.bytes;
-    same(&bytes, ciphertext)
-}
-
-// Whether two blocks of four are the one due.
-fn both(x: Block, y: Block, due: &[u8]) -> bool {
-    let a = x.bytes;
-    let b = y.bytes;
-    same(&a, due) & same(&b, due)
-}
-
-// The same in planes, where one schedule serves all four blocks: as the first and the third, then as the second and the fourth.
-pub fn in_planes(key: &[u8], plaintext: &[u8], ciphertext: &[u8]) -> bool {
-    let k = block_of(key);
-    let x = block_of(plaintext);
-    let w = planes::expand_key(k);
-    let s = slice_one(&w);
+// Four blocks in planes, where one schedule serves all four: x as the first and the third, then as the second and the fourth.
+fn in_planes(key: Block, x: Block, due: &[u8]) -> bool {
+    let schedule = slice_one(&planes::expand_key(key));
     let p = encrypt_four(
-        &s,
+        &schedule,
         Four {
             a: x,
-            b: k,
+            b: key,
             c: x,
-            d: k,
+            d: key,
         },
     );
     let q = encrypt_four(
-        &s,
+        &schedule,
         Four {
-            a: k,
+            a: key,
             b: x,
-            c: k,
+            c: key,
             d: x,
         },
     );
-    both(p.a, p.c, ciphertext) & both(q.b, q.d, ciphertext)
+    is(p.a, due) && is(q.b, due) && is(p.c, due) && is(q.d, due)
 }
 
-// The same under the first of two keys, of which the other is the plaintext: as the first and the second block.
-pub fn in_planes_first(key: &[u8], plaintext: &[u8], ciphertext: &[u8]) -> bool {
-    let t = s_box();
-    let k = block_of(key);
-    let x = block_of(plaintext);
-    let s = slice_pair(&t, k, x);
-    let p = encrypt_four(
-        &s,
+// Four blocks in planes under two keys: x twice under i, and y twice under j.
+fn by_two_keys(i: Block, x: Block, j: Block, y: Block) -> Four {
+    encrypt_four(
+        &slice_pair(&SBox::new(), i, j),
         Four {
             a: x,
             b: x,
-            c: k,
-            d: k,
+            c: y,
+            d: y,
         },
-    );
-    both(p.a, p.b, ciphertext)
+    )
 }
 
-// The same under the second, as the third and the fourth.
-pub fn in_planes_second(key: &[u8], plaintext: &[u8], ciphertext: &[u8]) -> bool {
-    let t = s_box();
-    let k = block_of(key);
-    let x = block_of(plaintext);
-    let s = slice_pair(&t, x, k);
-    let p = encrypt_four(
-        &s,
-        Four {
-            a: k,
-            b: k,
-            c: x,
-            d: x,
+// By the steps of a round, and by the tables. A call for each form, which hands over what runs it (main.rt has why).
+fn run_tables<R: Files + Print>(rt: &R, name: &str) -> io::Result<()> {
+    run_form(rt, name, " by encrypt", |key, x, due| {
+        let table = SBox::new();
+        is(encrypt(&table, &expand_key(&table, key), x), due)
+    })?;
+    run_form(rt, name, " by encrypt_pair, first block", |key, x, due| {
+        is(pair(key, x, key).x, due)
+    })?;
+    run_form(rt, name, " by encrypt_pair, second block", |key, x, due| {
+        is(pair(key, key, x).y, due)
+    })?;
+    run_form(
+        rt,
+        name,
+        " by encrypt_each_under, first block",
+        |key, x, due| { is(each(key, x, x, key).x, due) },
+    )?;
+    run_form(
+        rt,
+        name,
+        " by encrypt_each_under, second block",
+        |key, x, due| { is(each(x, key, key, x).y, due) },
+    )
+}
+
+// In planes.
+fn run_planes<R: Files + Print>(rt: &R, name: &str) -> io::Result<()> {
+    run_form(rt, name, " by encrypt_four, each block", in_planes)?;
+    run_form(
+        rt,
+        name,
+        " by encrypt_four, two keys, first",
+        |key, x, due| {
+            let p = by_two_keys(key, x, x, key);
+            is(p.a, due) && is(p.b, due)
         },
-    );
-    both(p.c, p.d, ciphertext)
+    )?;
+    run_form(
+        rt,
+        name,
+        " by encrypt_four, two keys, second",
+        |key, x, due| {
+            let p = by_two_keys(x, key, key, x);
+            is(p.c, due) && is(p.d, due)
+        },
+    )
+}
+
+// Keys, plaintexts and ciphertexts. What enciphers stands in more than one form, and each gets all of them.
+pub fn run_encryptions<R: Files + Print>(rt: &R, name: &str) -> io::Result<()> {
+    run_tables(rt, name)?;
+    run_planes(rt, name)
 }

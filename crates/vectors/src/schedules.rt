@@ -1,42 +1,42 @@
 // Whether the schedule of a key is the one due.
 use crate::ciphers::block_of;
-use aes::{expand_key, fixed_schedule, s_box};
-use block::load;
-use cases::answer::short_at;
-use check::same;
+use aes::{SBox, expand_key, fixed_schedule};
+use block::Block;
+use cases::line::Case;
 
 // Key, and its schedule of 44 words.
-pub fn expansion(key: &[u8], schedule: &[u8]) -> bool {
-    let t = s_box();
-    let w = expand_key(&t, block_of(key));
-    same(&w, schedule)
+fn expands<F: Fn(Block) -> [u8; 176]>(case: Case, expanded: F) -> bool
+    requires { F.IsAlwaysCallable expanded }
+{
+    let [key, schedule, ..] = case;
+    expanded(block_of(key)).as_slice() == schedule
 }
 
-// The same by the S-box's circuit.
-pub fn expansion_by_gates(key: &[u8], schedule: &[u8]) -> bool {
-    let w = planes::expand_key(block_of(key));
-    same(&w, schedule)
+// By the S-box's table.
+pub fn expansion(case: Case) -> bool {
+    expands(case, |key| expand_key(&SBox::new(), key))
 }
 
-// Key, i of 2 bytes, and word i of its schedule: the 4 bytes from 4i on.
-pub fn expansion_word(key: &[u8], index: &[u8], word: &[u8]) -> bool {
-    if index.len() != 2 {
+// By the S-box's circuit.
+pub fn expansion_by_gates(case: Case) -> bool {
+    expands(case, |key| planes::expand_key(key))
+}
+
+// Key, i of 2 bytes, and word i of its schedule.
+pub fn expansion_word([key, index, due, ..]: Case) -> bool {
+    let [high, low] = index else {
         return false;
+    };
+    let schedule = expand_key(&SBox::new(), block_of(key));
+    let (words, _) = schedule.as_chunks::<4>();
+    match words.get(usize::from(u16::from_be_bytes([*high, *low]))) {
+        Some(word) => word.as_slice() == due,
+        None => false,
     }
-    let i = short_at(index, 0);
-    if 43 < i {
-        return false;
-    }
-    let t = s_box();
-    let w = expand_key(&t, block_of(key));
-    let at = 4 * i;
-    let end = at + 4;
-    same(&w[at..end], word)
 }
 
 // π's key and its schedule, against the constant, whose first 16 bytes are the key.
-pub fn fixed_expansion(key: &[u8], schedule: &[u8]) -> bool {
-    let w = fixed_schedule();
-    let k = load(&w, 0).bytes;
-    same(&k, key) & same(&w, schedule)
+pub fn fixed_expansion([key, schedule, ..]: Case) -> bool {
+    let due = fixed_schedule();
+    due.as_slice() == schedule && &due[..16] == key
 }

@@ -1,2 +1,0 @@
--- What more than one proof cites.
-pub mod Copies

@@ -1,2 +1,0 @@
--- What the reader of lines promises.
-pub mod Fields

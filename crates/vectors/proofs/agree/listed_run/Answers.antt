@@ -1,7 +1,0 @@
-use lib.Seq.{length-take-le}
-use mathlib.Core.Path.{sym}
-use native.Mathlib.Omega.{arith}
-use Rattle.vectors.proofs.agree.listed_run.Goals as goal
-
-pub slice_bounds-listed_leaves-end : goal.slice_bounds-listed_leaves-end
-slice_bounds-listed_leaves-end c = sym (length-take-le _ _ (omega arith))
