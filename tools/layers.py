@@ -26,6 +26,7 @@ WORDS = {
     "chain": (1.45, "demand 3, the theorem"),
     "weighhare": (2.6, "the C interface"),
     "text": (3.85, "what sizes prints"),
+    "input": (2.6, "what programs read"),
     "sizes": (3.85, "the program of 01"),
     "cases": (0.35, "what test programs share"),
     "vectors": (1.45, "test program"),
@@ -87,7 +88,7 @@ def place(name, band, top):
 
 
 def kind(name):
-    if (ROOT / "crates" / name / "src" / "main.rt").exists() or name == "cases":
+    if (ROOT / "crates" / name / "src" / "main.rt").exists() or name in ("cases", "input"):
         return "programs"
     return "model" if name == "model" else "library"
 
@@ -116,7 +117,7 @@ def picture():
         f'  <rect x="1" y="1" width="{wide - 2}" height="{high - 2}" rx="10" fill="{PAPER}" stroke="#9aa5b1"/>',
         '  <text x="24" y="32" font-size="17" font-weight="bold">The layers of the crates</text>',
         '  <text x="24" y="52">An arrow leads from a crate to one that it names; what follows from others is left out.'
-        " Green: programs, and what the test programs share.</text>",
+        " Green: programs, and what programs alone use.</text>",
     ]
     for band in range(top + 1):
         y = TOP + (top - band) * BAND

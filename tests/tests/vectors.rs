@@ -123,8 +123,8 @@ fn every_case_is_counted() {
     assert_eq!(found, names);
 }
 
-/// The files that a program runs in one way. A way is what stands before the file's name in the statement of
-/// `main.rt` that runs it: the function that is called, and the group.
+/// The files that a program runs in one way. A way is what stands around the file's name in the statement of
+/// `main.rt` that runs it: the function that is called, and what it is handed to run a case.
 fn run_alike(program: &str) -> Vec<Vec<String>> {
     let source = format!("{TOP}/crates/{program}/src/main.rt");
     let source = fs::read_to_string(source).expect("a program");
@@ -132,11 +132,12 @@ fn run_alike(program: &str) -> Vec<Vec<String>> {
     let code = code.filter(|line| !line.starts_with("//"));
     let code: String = code.flat_map(str::split_whitespace).collect();
     let files = data(program);
-    let mut ways: BTreeMap<&str, Vec<String>> = BTreeMap::new();
+    let mut ways: BTreeMap<String, Vec<String>> = BTreeMap::new();
     for statement in code.split([';', '{', '}']) {
         let mut parts = statement.split('"');
-        if let (Some(way), Some(name)) = (parts.next(), parts.next()) {
+        if let (Some(before), Some(name), Some(after)) = (parts.next(), parts.next(), parts.next()) {
             if files.contains_key(name) {
+                let way = format!("{before}{}", after.trim_end_matches('?'));
                 ways.entry(way).or_default().push(name.to_string());
             }
         }

@@ -12,8 +12,8 @@ const HEAD: [&str; 3] = ["Type", "Made of a number", "Made a number"];
 /// Crates that are tests: what they do is not listed.
 const TESTS: [&str; 3] = ["cases", "vectors", "garblings"];
 
-/// What is wrong: a function that makes one of the three of a number, `Wire(..)`, and is not in that row, or a
-/// number of one, `.0`, and is in no row; and one that is listed and does not.
+/// What is wrong: a function that makes one of the three of a number, `Wire(..)` or `Truth { .. }`, and is not in
+/// that row, or a number of one, `.0` or `.bit`, and is in no row; and one that is listed and does not.
 pub fn faults(tree: &Tree, page: &str) -> Vec<String> {
     let text = tree.text(page).unwrap_or_default();
     let mut listed: BTreeMap<String, BTreeSet<String>> = BTreeMap::new();
@@ -49,7 +49,13 @@ pub fn faults(tree: &Tree, page: &str) -> Vec<String> {
         );
     }
     let found = functions(tree, takes_number);
-    compare(&place, "take .0", &found, &made_numbers, &mut faults);
+    compare(
+        &place,
+        "take .0 or .bit",
+        &found,
+        &made_numbers,
+        &mut faults,
+    );
     faults
 }
 
@@ -81,19 +87,23 @@ fn names(cell: &str) -> BTreeSet<String> {
     names.map(last).collect()
 }
 
-/// Whether one of a type is made: `Wire(..)`.
+/// Whether one of a type is made: `Wire(..)`, `Truth { .. }`.
 fn makes(body: &str, kind: &str) -> bool {
-    let call = format!("{kind}(");
-    let mut found = body.match_indices(&call).map(|(at, _)| &body[..at]);
-    found.any(|before| !before.ends_with(|c: char| c.is_alphanumeric() || c == '_'))
+    ["(", " {"].iter().any(|open| {
+        let made = format!("{kind}{open}");
+        let mut found = body.match_indices(&made).map(|(at, _)| &body[..at]);
+        found.any(|before| !before.ends_with(|c: char| c.is_alphanumeric() || c == '_'))
+    })
 }
 
-/// Whether the number is taken out of one: `w.0`.
+/// Whether the number is taken out of one: `w.0`, `u.bit`.
 fn takes_number(body: &str) -> bool {
-    let mut found = body
-        .match_indices(".0")
-        .map(|(at, dot)| &body[at + dot.len()..]);
-    found.any(|after| !after.starts_with(|c: char| c.is_alphanumeric() || "._".contains(c)))
+    [".0", ".bit"].iter().any(|number| {
+        let mut found = body
+            .match_indices(number)
+            .map(|(at, dot)| &body[at + dot.len()..]);
+        found.any(|after| !after.starts_with(|c: char| c.is_alphanumeric() || "._".contains(c)))
+    })
 }
 
 /// The functions of the library of whose body this holds.
@@ -148,4 +158,8 @@ fn conversions() {
     let without = code.replace("\n    ensures { result.0 ≡ n }\n{\n", " {\n");
     assert_eq!((count(table, &without), count("", &without)), (0, 2));
     assert_eq!(count("", code), 2);
+    let bits = code.replace("    Wire(n)", "    Truth { bit: n }");
+    let bits = bits.replace("w.0 as", "w.bit as").replace("w.0", "w");
+    assert_eq!(count(&table.replace("`Wire`", "`Truth`"), &bits), 0);
+    assert_eq!((count(table, &bits), count("", &bits)), (2, 2));
 }
