@@ -24,13 +24,16 @@ pub fn two(value: usize) -> [u8; 2]
 }
 
 // Copies bytes to the front of a buffer.
-// Beside `copy_to`, as the model has `over` beside `put`, and contracts of callers name both.
-#[tactic(auto, unfolding(model::specs::Bytes::over))]
+// Beside `copy_to`, as the model has `over` beside `put`, and contracts of callers name both. By a loop: where the number
+// of bytes is not known, `copy_from_slice` becomes a call of `memmove`, which the archive would then ask of who links it.
+#[tactic(auto, using(model::proofs::Buffers::copy_start, model::proofs::Buffers::copy_end))]
 pub fn copy_front(src: &[u8], dst: &mut [u8])
     requires { length src.now ≤ length dst.old }
     ensures { dst.new ≡ over src.now dst.old }
 {
-    dst[..src.len()].copy_from_slice(src);
+    for j in 0..src.len() {
+        dst[j] = src[j];
+    }
 }
 
 // Copies bytes to an index of a buffer.

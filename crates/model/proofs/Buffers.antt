@@ -73,6 +73,27 @@ module _ (o : List ℕ) (at : ℕ) where
   unfolding put over
   put_none = sym (take-append-drop at o)
 
+-- ---- copying a list to the front
+module _ (src o : List ℕ) where
+  pub record Copied (j : ℕ) (d : List ℕ) : Type 0 where
+    pub within : j ≤ length src
+    pub same_length : length d ≡ length o
+    pub so_far : d ≡ over (take j src) o
+
+  pub copy_start : Copied 0 o
+  unfolding over
+  copy_start = record { within = omega arith; same_length = refl; so_far = refl }
+
+  pub copy_turn : (j : ℕ) (d : List ℕ) → length src ≤ length o → j < length src → Copied j d → Copied (j + 1) (set d j (get_or src j 0))
+  copy_turn j d h l inv =
+      let t : take (suc j) src ≡ take j src ++ (get_or src j 0 ∷ []) = take-suc src j 0 l in
+      let e : set (over (take j src) o) j (get_or src j 0) ≡ over (take j src ++ (get_or src j 0 ∷ [])) o =
+      over_set (take j src) o j _ (length-take-le j src (omega arith)) (omega arith) in
+      record { within = omega arith; same_length = simp length-set inv.same_length; so_far = rw (inv.so_far, e, add-one, t) }
+
+  pub copy_end : (j : ℕ) (d : List ℕ) → Copied j d → length src ≤ j → d ≡ over src o
+  copy_end j d inv h = rw (inv.so_far, take_all j src h)
+
 -- ---- a part of a buffer, lent and written at its front
 drop_take_drop : (m k : ℕ) (l : List ℕ) → m ≤ k → k ≤ length l → drop m (take k l) ++ drop k l ≡ drop m l
 drop_take_drop m k l h i =
