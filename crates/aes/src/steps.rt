@@ -39,13 +39,17 @@ fn mix_word(a: u8, b: u8, c: u8, d: u8) -> [u8; 4]
 }
 
 impl State {
-    // SubBytes, §5.1.1: each byte through the S-box.
+    // SubBytes, §5.1.1: each byte through the S-box. By a loop: tried, `map` takes a block 2.5 times the instructions, since
+    // the compiler then goes byte by byte in each round (bench/NOTES.md).
     pub fn sub_bytes(self, table: &SBox) -> State
         ensures { result.bytes ≡ sub_bytes self.bytes }
     {
-        State {
-            bytes: self.bytes.map(|b| table.sub(b)),
+        let s = self.bytes;
+        let mut x = [0u8; 16];
+        for i in 0..16 {
+            x[i] = table.sub(s[i]);
         }
+        State { bytes: x }
     }
 
     // ShiftRows, §5.1.2: row r is rotated left by r columns.

@@ -1,10 +1,15 @@
-use lib.ListN.{get_or}
-use borrow.Author.Rules.{rules}
-use Rattle.model.specs.Aes.{s_box, sub_bytes}
-use Rattle.aes.proofs.Joined.{tabled}
+use mathlib.Core.Path.{refl}
+use native.Mathlib.Omega.{arith}
+use Rattle.model.specs.Aes.{sub_bytes}
+use Rattle.block.proofs.Fill.{fill_start, fill_turn, fill_end}
 use Rattle.aes.proofs.steps.State.sub_bytes.Goals as goal
+
+pub loop-i-init : goal.loop-i-init
+loop-i-init c = fill_start (omega arith) refl
+
+pub loop-i-preserved : goal.loop-i-preserved
+loop-i-preserved c = fill_turn c.loop-i.invariant c.sub.ensures (omega arith)
 
 pub returns : goal.returns
 unfolding sub_bytes
-returns c = let made = c.map.ensures.items in
-    tabled 16 (λ i. s_box (get_or c.args.self.bytes i 0)) _ made.long (λ i h. let called = made.at i 0 0 h in search (rules, called))
+returns c = fill_end c.loop-i.invariant (omega arith)
