@@ -13,7 +13,7 @@ use crate::arguments::{Rooms, encode_arguments, garble_arguments};
 use crate::clash::garble_or_wipe;
 use crate::inputs::encode_inputs;
 use circuit::check;
-use model::{Garbled, Refusal, Wanted, Wire};
+use model::{Garbled, Refusal, Truth, Wanted, Wire};
 
 pub mod arguments;
 pub mod clash;
@@ -96,7 +96,8 @@ pub fn pick<'a>(zeros: &'a [u8], ones: &'a [u8], wire: Wire, bit: u8) -> &'a [u8
     }
     let at = 16 * (wire.0 as usize - 1);
     let end = at + 16;
-    if bit == 0 {
+    let value = Truth { bit };
+    if value.bit == 0 {
         &zeros[at..end]
     } else {
         &ones[at..end]

@@ -8,17 +8,17 @@ returns-then-is_err c = picked_none _ _ _ _ _ c.pick_check.ensures _ c.is_err.en
 pub overflow_sub-at : goal.overflow_sub-at
 overflow_sub-at c = search pick_cases
 
-pub slice_bounds-result-end-then-bit-eq0 : goal.slice_bounds-result-end-then-bit-eq0
-slice_bounds-result-end-then-bit-eq0 c = search pick_cases
+pub slice_bounds-result-end-then-value-eq0 : goal.slice_bounds-result-end-then-value-eq0
+slice_bounds-result-end-then-value-eq0 c = search pick_cases
 
-pub slice_bounds-result-end-else-bit-eq0 : goal.slice_bounds-result-end-else-bit-eq0
-slice_bounds-result-end-else-bit-eq0 c = search pick_cases
+pub slice_bounds-result-end-else-value-eq0 : goal.slice_bounds-result-end-else-value-eq0
+slice_bounds-result-end-else-value-eq0 c = search pick_cases
 
 -- each of the law's facts at its place: the last two are the part's place and its bytes, as the code made it
-pub returns-then-bit-eq0 : goal.returns-then-bit-eq0
-returns-then-bit-eq0 c =
-    picked_zero _ _ _ _ _ c.pick_check.ensures _ c.is_err.ensures.value c.if-is_err.false _ c.if-bit-eq0.true (search rules) (search rules)
+pub returns-then-value-eq0 : goal.returns-then-value-eq0
+returns-then-value-eq0 c =
+    picked_zero _ _ _ _ _ c.pick_check.ensures _ c.is_err.ensures.value c.if-is_err.false _ c.if-value-eq0.true (search rules) (search rules)
 
-pub returns-else-bit-eq0 : goal.returns-else-bit-eq0
-returns-else-bit-eq0 c =
-    picked_one _ _ _ _ _ c.pick_check.ensures _ c.is_err.ensures.value c.if-is_err.false _ c.if-bit-eq0.false (search rules) (search rules)
+pub returns-else-value-eq0 : goal.returns-else-value-eq0
+returns-else-value-eq0 c =
+    picked_one _ _ _ _ _ c.pick_check.ensures _ c.is_err.ensures.value c.if-is_err.false _ c.if-value-eq0.false (search rules) (search rules)
