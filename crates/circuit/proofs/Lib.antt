@@ -9,3 +9,4 @@ pub mod ArgumentLaws
 pub mod ValueLaws
 pub mod OutputLaws
 pub mod PlainLaws
+pub mod RefusalLaws

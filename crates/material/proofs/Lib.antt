@@ -8,5 +8,6 @@ pub mod LastLaws
 pub mod MaterialLaws
 pub mod WellFormed
 pub mod ReadsOn
+pub mod WriterLaws
 pub mod AsSaid
 pub mod EndingLaws
