@@ -42,6 +42,13 @@ use Rattle.evaluate.proofs.RestLaws.{evaluate_verdict_law}
 use Rattle.evaluate.proofs.WalkLaws.{walk_scheme, walk_start, walk_few, walk_end, walk_token, walk_stepped, wires_walk, wires_done}
 use Rattle.evaluate.proofs.EvaluateLaws.{evaluate_fine, evaluate_made}
 
+-- ---- begin, of the limits as they were tried
+
+pub begun_first : (n m q : ℕ) (b : Bool) → q ≤ 65535 → b ≡ sizes_hold false n m q → b ≡ true
+    → yes (record { n = n; m = m; q = q; p = 0 }) ≡ limits_answer n m q
+unfolding refuse
+begun_first n m q b few is_b h = rw (le-leb _ _ few, ← is_b, h)
+
 -- ---- stride_of, of the bytes as they were counted
 
 pub stride_none : (s : List ℕ) (bytes : ℕ) → length s ≤ 2 → bytes ≡ record_length (scheme_of 0) → bytes ≡ stride s
